@@ -1,0 +1,142 @@
+ghost use Rattle.std.specs.Prelude.{◌≡◌, ◌≤◌, Err, IfOk, IfSome, false};
+ghost use Rattle.wire_io.specs.Causes.{Rose};
+ghost use Rattle.kibana_main.specs.Output.{is_apply_words, scenario_text, outcome_of, usage_outcome, Ends, Spends, IsCertain};
+
+use crate::report::{answers_lines, bad_input_line, limit_line, usage_line};
+use crate::scenario::{InputError, Scenario, Which, read_scenario};
+use crate::store::answers;
+use plain_data::{List, Text};
+use std::alloc::{AllocError, Global};
+use wire_io::{Sink, Source, write_all_of};
+
+/// How a run ended.
+#[derive(Clone, Copy, Debug, PartialEq, Eq)]
+pub enum Status {
+    Ok,
+    Memory,
+    Usage,
+    BadInput(u64),
+    ReadFault,
+    WriteFault,
+    Limit(Which),
+}
+
+fn is_apply(words: &List<Text>) -> bool
+    ensures { result ≡ is_apply_words words.now }
+{
+    match words.as_slice() {
+        [word] => word.as_str() == "apply",
+        _ => false,
+    }
+}
+
+/// What is printed for a scenario.
+fn output(alloc: Global, scenario: &Scenario) -> Result<List<u8>, AllocError>
+    ensures { IfOk result (λ text. text ≡ scenario_text scenario.now) }
+{
+    match &scenario.registry {
+        None => Ok(List::new(alloc)),
+        Some(registry) => {
+            let all = answers(alloc, registry, &scenario.calls)?;
+            let lines = answers_lines(alloc, registry.version, &all)?;
+            Ok(lines)
+        }
+    }
+}
+
+/// How a run is to end, and what it is to write.
+#[derive(Debug, Drop)]
+struct Outcome {
+    status: Status,
+    text: List<u8>,
+}
+
+/// Runs the command that the words name.
+pub fn plain<S: Source, K: Sink>(
+    alloc: Global,
+    words: &List<Text>,
+    source: &mut S,
+    sink: &mut K,
+) -> Status
+    // The words and the input say the status and what is written. Want of memory or a fault may cut it short.
+    ensures told { IfSome (S.left source.old) (λ input.
+        Ends (outcome_of words.now input) (K.held sink.old) (K.held sink.new) result) }
+
+    // Words that name no command are told at once.
+    ensures usage { is_apply_words words.now ≡ false
+        → Ends usage_outcome (K.held sink.old) (K.held sink.new) result }
+
+    // At Ok the input was read to its end.
+    ensures spent { result ≡ Status.Ok → Spends (S.left source.old) (S.left source.new) }
+    ensures read { S.faults source.old ≤ S.faults source.new }
+    ensures read_fault { result ≡ Status.ReadFault → Rose (S.faults source.old) (S.faults source.new) }
+    ensures write { K.faults sink.old ≤ K.faults sink.new }
+    ensures write_fault { result ≡ Status.WriteFault → Rose (K.faults sink.old) (K.faults sink.new) }
+{
+    match judge(alloc, words, source) {
+        Ok(outcome) => match write_all_of(sink, outcome.text.as_slice()) {
+            Ok(()) => outcome.status,
+            Err(_) => Status::WriteFault,
+        },
+        Err(Unknown::Memory) => Status::Memory,
+        Err(Unknown::ReadFault) => Status::ReadFault,
+    }
+}
+
+/// Why no outcome is known.
+#[derive(Clone, Copy, Debug, PartialEq, Eq)]
+enum Unknown {
+    Memory,
+    ReadFault,
+}
+
+impl From<AllocError> for Unknown {
+    ghost use Rattle.std.specs.Prelude.{◌≡◌};
+    ghost use Rattle.kibana_main.specs.declared.plain_call.Unknown.TheVariants.{Memory};
+
+    ghost from_gives = { λ _ e. e ≡ Memory };
+
+    fn from(_refused: AllocError) -> Unknown {
+        Unknown::Memory
+    }
+}
+
+fn judge<S: Source>(alloc: Global, words: &List<Text>, source: &mut S) -> Result<Outcome, Unknown>
+    ensures told { IfSome (S.left source.old) (λ input. IfOk result (λ o. o ≡ outcome_of words.now input)) }
+    ensures usage { is_apply_words words.now ≡ false → IfOk result (λ o. o ≡ usage_outcome) }
+    ensures certain { IfOk result (λ o. IsCertain o.status) }
+    ensures spent { IfOk result (λ o. o.status ≡ Status.Ok → Spends (S.left source.old) (S.left source.new)) }
+    ensures known { is_apply_words words.now ≡ false → result ≡ Err Unknown.ReadFault → ⊥ }
+    ensures later { S.faults source.old ≤ S.faults source.new }
+    ensures fault { result ≡ Err Unknown.ReadFault → Rose (S.faults source.old) (S.faults source.new) }
+{
+    if !is_apply(words) {
+        let outcome = usage(alloc)?;
+        return Ok(outcome);
+    }
+    match read_scenario(alloc, source) {
+        Ok(scenario) => Ok(Outcome {
+            status: Status::Ok,
+            text: output(alloc, &scenario)?,
+        }),
+        Err(InputError::Memory) => Err(Unknown::Memory),
+        Err(InputError::ReadFault) => Err(Unknown::ReadFault),
+        Err(InputError::NotBuilt(at)) => Ok(Outcome {
+            status: Status::BadInput(at),
+            text: bad_input_line(alloc, at)?,
+        }),
+        Err(InputError::Limit(which)) => Ok(Outcome {
+            status: Status::Limit(which),
+            text: limit_line(alloc, which)?,
+        }),
+    }
+}
+
+fn usage(alloc: Global) -> Result<Outcome, AllocError>
+    ensures { IfOk result (λ o. o ≡ usage_outcome) }
+{
+    Ok(Outcome {
+        status: Status::Usage,
+        text: usage_line(alloc)?,
+    })
+}

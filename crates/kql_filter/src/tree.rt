@@ -1,0 +1,56 @@
+ghost use Rattle.std.specs.Prelude.{◌≡◌};
+ghost use Rattle.kql_filter.specs.declared.tree.FilterError.TheVariants.{Memory};
+
+use plain_data::List;
+use std::alloc::{AllocError, AllocFailed};
+
+/// Why a text was not read as a filter.
+#[derive(Clone, Copy, Debug, PartialEq, Eq)]
+pub enum FilterError {
+    Memory,
+    BadFilter,
+}
+
+impl From<AllocError> for FilterError {
+    ghost from_gives = { λ _ e. e ≡ Memory };
+
+    fn from(_refused: AllocError) -> FilterError {
+        FilterError::Memory
+    }
+}
+
+impl<T: Drop> From<AllocFailed<T>> for FilterError {
+    ghost from_gives = { λ _ e. e ≡ Memory };
+
+    fn from(_refused: AllocFailed<T>) -> FilterError {
+        FilterError::Memory
+    }
+}
+
+/// A relation between whole numbers.
+#[derive(Clone, Copy, Debug, PartialEq, Eq)]
+pub enum Rel {
+    AtMost,
+    AtLeast,
+    Below,
+    Above,
+}
+
+/// What is asked of a field's value.
+#[derive(Clone, Debug, Drop)]
+pub enum Test {
+    Present,
+    Word(List<u8>),
+    Prefix(List<u8>),
+    Quoted(List<u8>),
+    Compare(Rel, i128),
+}
+
+/// The tree of a filter.
+#[derive(Debug, Drop)]
+pub enum Expr {
+    Or(Box<Expr>, Box<Expr>),
+    And(Box<Expr>, Box<Expr>),
+    Not(Box<Expr>),
+    Field(List<u8>, Test),
+}

@@ -1,0 +1,8 @@
+//! Plain data that records hold: a text that contracts see as its bytes, and a list that they see as its items.
+#![tactic(auto)]
+
+mod list;
+mod text;
+
+pub use list::List;
+pub use text::Text;
