@@ -1,7 +1,7 @@
 -- Where nothing stands against a machine it doesn't end as fatal.
 use Rattle.std.proofs.Common.{◌≡◌, ◌⊎◌, List, [], ◌∷◌, true, false, Option, Some, sym, ◌∙◌, subst}
 use mathlib.Core.Logic.◌⊎◌.{inl, inr}
-use Rattle.race_model.specs.Keyed.{Text, at}
+use Rattle.base_model.specs.Keyed.{Text, at}
 use Rattle.race_model.specs.Stores.{Index, Store, Select}
 use Rattle.race_model.specs.Machines.{Settings, Cause, State}
 use Rattle.race_model.specs.Machines.Cause.{UnknownObjects, NewerIndex, OtherVersion, Leftover}

@@ -1,7 +1,7 @@
 -- The claims for several target sets, from the facts.
 use Rattle.std.proofs.Common.{◌++◌, ◌+◌, ◌*◌, ◌≤◌, ◌≡◌, ◌≢◌, ℕ, zero, suc, ◌⊎◌, List, [], ◌∷◌, true, false, Option, Some, None, refl, sym, ◌∙◌, ap, subst, replicate}
 use mathlib.Core.Logic.◌⊎◌.{inl, inr}
-use Rattle.race_model.specs.Keyed.{Text, at}
+use Rattle.base_model.specs.Keyed.{Text, at}
 use Rattle.race_model.specs.Stores.{Rows, Table, Index, Store, Write, Request}
 use Rattle.race_model.specs.Stores.Request.{Bulk}
 use Rattle.race_model.specs.Machines.{moved, Settings, Cause, StateName, End, Machine}

@@ -1,7 +1,7 @@
 -- Whoever is done has the fact of its version in the journal.
 use Rattle.std.proofs.Common.{◌≡◌, ◌≢◌, ℕ, ◌⊎◌, List, [], ◌∷◌, ◌++◌, Option, Some, None, refl, sym, ◌∙◌, subst}
 use mathlib.Core.Logic.◌⊎◌.{inl, inr}
-use Rattle.race_model.specs.Keyed.{Text}
+use Rattle.base_model.specs.Keyed.{Text}
 use Rattle.race_model.specs.Stores.{Request}
 use Rattle.race_model.specs.Stores.Request.{Ping, Create, Block, Clone, OpenPit, ReadPit, ClosePit, Get, Search, Bulk, Aliases}
 use Rattle.race_model.specs.Machines.{Settings}

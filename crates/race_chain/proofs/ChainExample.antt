@@ -3,11 +3,11 @@ use Rattle.std.proofs.Common.{◌≡◌, ◌≢◌, ℕ, suc, ◌+◌, ◌≤◌
 use Rattle.std.proofs.lemmas.Bool.Decides.{nat_tests}
 use Rattle.std.proofs.lemmas.List.{take-append-drop}
 use mathlib.Core.Logic.◌⊎◌.{inl, inr}
-use Rattle.race_model.specs.Keyed.{Text, same}
+use Rattle.base_model.specs.Keyed.{Text, same}
 use Rattle.race_model.specs.Stores.{Rows, Request, Write}
 use Rattle.race_model.specs.Stores.Request.{Bulk}
 use Rattle.race_model.specs.Machines.{Settings}
-use Rattle.race_model.specs.Machines.Outcome.{Outputs}
+use Rattle.base_model.specs.Outcomes.Outcome.{Outputs}
 use Rattle.race_model.specs.Journals.{Has}
 use Rattle.race_model.specs.Worlds.{Race}
 use Rattle.race_laws.specs.Premises.{IsSorted, last_key, FreshWrites, Paged}

@@ -1,7 +1,7 @@
 -- What holds of a store of several target sets, of each machine and of each request, and what lasts.
 use Rattle.std.proofs.Common.{◌≡◌, ◌≢◌, ℕ, ◌<◌, ◌≤◌, ◌⊎◌, List, [], ◌++◌, true, false, Option, Some, None, sym, ◌∙◌, subst, arith}
 use mathlib.Core.Logic.◌⊎◌.{inl, inr}
-use Rattle.race_model.specs.Keyed.{Text, Keyed, at}
+use Rattle.base_model.specs.Keyed.{Text, Keyed, at}
 use Rattle.race_model.specs.Stores.{Rows, Table, Index, Store, Request, renumbered, empty_table, pit_at}
 use Rattle.race_model.specs.Stores.Request.{Ping, Create, Block, Clone, OpenPit, ReadPit, ClosePit, Get, Search, Bulk, Aliases}
 use Rattle.race_model.specs.Machines.{Settings, Cause, End, Finish, Pass, State, switch, creates}

@@ -1,7 +1,7 @@
 -- Every journal that conforms is a run of one table per version, for several target sets.
 use Rattle.std.proofs.Common.{◌≡◌, ◌≢◌, if◌then◌else◌, ℕ, List, [], ◌∷◌, Bool, true, false, Option, Some, None, refl, sym, ◌∙◌, ap, subst}
 use mathlib.Core.Logic.◌⊎◌.{inl, inr}
-use Rattle.race_model.specs.Keyed.{Text, at, without}
+use Rattle.base_model.specs.Keyed.{Text, at, without}
 use Rattle.race_model.specs.Stores.{Rows, Table, Index, Store, Answer, Write, Request, Reply, serve, write_all, renumbered, empty_table, pit_at, meant, with_index, create_over, block_over, clone_over, copy_of, open_over, close_over, bulk_over, bulk_in, get_over, search_over, act_all, acted_answer}
 use Rattle.race_model.specs.Stores.Request.{Ping, Block, Get, Search, Bulk, Aliases}
 use Rattle.race_model.specs.Stores.Reply.{Done, Refused}

@@ -1,7 +1,7 @@
 -- Where plans are what they owe, every run that conforms is legal.
 use Rattle.std.proofs.Common.{◌≡◌, ℕ, List, [], ◌∷◌, true, false, Option, Some, None, refl, sym, ap, subst}
 use mathlib.Core.Logic.◌⊎◌.{inl, inr}
-use Rattle.race_model.specs.Keyed.{Text}
+use Rattle.base_model.specs.Keyed.{Text}
 use Rattle.race_model.specs.Stores.{Store, Request, serve}
 use Rattle.race_model.specs.Machines.{Settings}
 use Rattle.race_model.specs.Generations.{Generations, Move, told_by, left_by, move}

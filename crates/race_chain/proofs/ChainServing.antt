@@ -2,7 +2,7 @@
 use Rattle.std.proofs.Common.{◌≡◌, ◌≢◌, ℕ, ◌+◌, ◌<◌, ◌≤◌, ◌⊎◌, List, [], ◌∷◌, Bool, true, false, Option, Some, None, refl, sym, ◌∙◌, ap, subst, if◌then◌else◌, ◌==◌, arith}
 use Rattle.std.proofs.lemmas.Bool.Decides.{nat_tests}
 use mathlib.Core.Logic.◌⊎◌.{inl, inr}
-use Rattle.race_model.specs.Keyed.{Text, at, without}
+use Rattle.base_model.specs.Keyed.{Text, at, without}
 use Rattle.race_model.specs.Stores.{Rows, Table, Index, Store, write_all, numbered, renumbered, empty_table, pit_at, close, with_index, with_aliases, create_over, block_over, clone_over, copy_of, open_over, close_over, bulk_over, bulk_in, act, act_all}
 use Rattle.race_model.specs.Stores.Refusal.{AliasMissing, AliasTaken}
 use Rattle.race_model.specs.Stores.Acted.{Now, Stuck}

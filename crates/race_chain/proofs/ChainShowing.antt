@@ -1,11 +1,11 @@
 -- Where a machine ends as fatal, the store shows the cause.
 use Rattle.std.proofs.Common.{append_assoc, ◌≡◌, ◌≢◌, ℕ, ◌⊎◌, List, [], ◌∷◌, ◌++◌, Bool, true, false, Option, Some, None, refl, sym, ◌∙◌, ap, subst, if◌then◌else◌}
 use mathlib.Core.Logic.◌⊎◌.{inl, inr}
-use Rattle.race_model.specs.Keyed.{Text, at}
+use Rattle.base_model.specs.Keyed.{Text, at}
 use Rattle.race_model.specs.Stores.{Rows, Table, Index, Store, Request, serve, pit_at, meant, create_over, block_over, clone_over, copy_of, open_over, read_over, close_over, bulk_over, bulk_in, act_all, acted_answer, seen}
 use Rattle.race_model.specs.Stores.Acted.{Now}
 use Rattle.race_model.specs.Stores.Reply.{Seen, Selected}
-use Rattle.race_model.specs.Machines.{Settings, Outcome, Cause, Finish, Pass, Batch, State, request, moved, creates, batch, last_of, goal_of, is_on, is_on_some, settled, where_from, unless_left, unless_legacy, by_index, by_aliases, from_state, from_check, from_source_block, from_create_temp, from_new_target, from_open, by_batch, from_read, from_bulk, from_close, from_temp_block, from_clone, from_outdated_open, from_outdated_read, after_outdated, from_mark, from_conflict}
+use Rattle.race_model.specs.Machines.{Settings, Cause, Finish, Pass, Batch, State, request, moved, creates, batch, last_of, goal_of, is_on, is_on_some, settled, where_from, unless_left, unless_legacy, by_index, by_aliases, from_state, from_check, from_source_block, from_create_temp, from_new_target, from_open, by_batch, from_read, from_bulk, from_close, from_temp_block, from_clone, from_outdated_open, from_outdated_read, after_outdated, from_mark, from_conflict}
 use Rattle.race_model.specs.Machines.Batch.{Good, Bad}
 use Rattle.race_model.specs.Machines.Cause.{NewerIndex, VersionAliasMissing, Leftover}
 use Rattle.race_model.specs.Machines.End.{Fatal}
@@ -14,7 +14,7 @@ use Rattle.race_model.specs.Machines.State.{Init, CreateNewTarget, CheckUnknown,
 use Rattle.race_model.specs.Worlds.{Race}
 use Rattle.race_laws.specs.Premises.{IsSorted, Each}
 use Rattle.race_laws.proofs.Keys.{same_refl}
-use Rattle.race_model.specs.Machines.Outcome.{Removed, Unknown, TooNew, Corrupt, Outputs}
+use Rattle.base_model.specs.Outcomes.Outcome.{Removed, Unknown, TooNew, Corrupt, Outputs}
 use Rattle.race_model.specs.Migrated.{outs}
 use Rattle.race_laws.specs.Claims.{IsGoodOutcome, NoneHas, AllApart, IsClean}
 use Rattle.race_laws.proofs.Asking.{outs_append}
@@ -29,6 +29,7 @@ use Rattle.race_chain.proofs.ChainFacts.Current.{Nowhere, On}
 use Rattle.race_chain.proofs.ChainSwitching.{switch_of, install_of, Installing, installing, on_it, switch_now, switch_stuck}
 use Rattle.race_chain.proofs.ChainSwitching.Installing.{First, Repeated, Refuses}
 use Rattle.race_chain.proofs.ChainMoving.{is_on_false, not_on}
+use Rattle.base_model.specs.Outcomes.{Outcome}
 
 -- clean, in the words of the proofs
 good_again : {D : Type 0} (o : Outcome D) → IsGoodOutcome o → IsGood o

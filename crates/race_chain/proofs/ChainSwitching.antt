@@ -1,7 +1,7 @@
 -- The switch and the install of a version, among several target sets.
 use Rattle.std.proofs.Common.{◌≡◌, ◌≢◌, ◌⊎◌, List, [], ◌∷◌, true, false, Option, Some, None, refl, sym, ◌∙◌, ap, subst, arith}
 use mathlib.Core.Logic.◌⊎◌.{inl, inr}
-use Rattle.race_model.specs.Keyed.{Text, Keyed, at, put, without}
+use Rattle.base_model.specs.Keyed.{Text, Keyed, at, put, without}
 use Rattle.race_model.specs.Stores.{Index, Store, Action, Request, serve, pit_at, meant, with_aliases, act_all, acted_answer, block_over, bulk_over}
 use Rattle.race_model.specs.Stores.Refusal.{AliasMissing, AliasTaken}
 use Rattle.race_model.specs.Stores.Acted.{Now, Stuck}

@@ -1,9 +1,9 @@
 -- A page of clean rows makes a good batch.
 use Rattle.std.proofs.Common.{◌≡◌, List, [], ◌∷◌, ◌++◌, Bool, false, Option, Some, None, refl, sym, ◌∙◌, ap, subst, append_assoc, append-nil}
-use Rattle.race_model.specs.Keyed.{Text, same, at, put}
+use Rattle.base_model.specs.Keyed.{Text, same, at, put}
 use Rattle.race_model.specs.Stores.{Rows}
-use Rattle.race_model.specs.Machines.{Settings, Outcome, Cause, Pass, Batch, outputs_of, is_unknown, is_corrupt, is_newer, raws_where, collision, pass_after, with_front, unless, where_none, gathered, batch}
-use Rattle.race_model.specs.Machines.Outcome.{Removed, Unknown, TooNew, Corrupt, Outputs}
+use Rattle.race_model.specs.Machines.{Settings, Cause, Pass, Batch, outputs_of, is_unknown, is_corrupt, is_newer, raws_where, collision, pass_after, with_front, unless, where_none, gathered, batch}
+use Rattle.base_model.specs.Outcomes.Outcome.{Removed, Unknown, TooNew, Corrupt, Outputs}
 use Rattle.race_model.specs.Machines.Cause.{UnknownObjects, CorruptObjects, NewerObjects}
 use Rattle.race_model.specs.Machines.Batch.{Good, Bad}
 use Rattle.race_model.specs.Migrated.{outs}
@@ -11,6 +11,7 @@ use Rattle.race_laws.specs.Premises.{Each}
 use Rattle.race_laws.proofs.Keys.{same_false, at_put_other, apart_from_false}
 use Rattle.race_laws.proofs.Facts.{Lacks, Distinct, IsGood, AllGood}
 use Rattle.race_laws.proofs.Serving.{apart}
+use Rattle.base_model.specs.Outcomes.{Outcome}
 
 -- the pass knows no other raw ids than these
 abbrev pub Exact : {D : Type 0} → Pass → List (Text × D) → Type 0

@@ -1,7 +1,7 @@
 -- Generations in a row: what a block, a migration and a write leave of them.
 use Rattle.std.proofs.Common.{◌≡◌, ◌≢◌, List, [], ◌∷◌, Bool, true, false, Some, None, refl, sym, ◌∙◌, ap, subst, if◌then◌else◌}
 use mathlib.Core.Logic.◌⊎◌.{inl, inr}
-use Rattle.race_model.specs.Keyed.{Text, same}
+use Rattle.base_model.specs.Keyed.{Text, same}
 use Rattle.race_model.specs.Stores.{Write}
 use Rattle.race_model.specs.Machines.{Settings}
 use Rattle.race_model.specs.Migrated.{migrated}

@@ -1,6 +1,6 @@
 -- A journal as a legal run, where each call of a client is one step with its answer.
 use Rattle.std.specs.Prelude.{◌≡◌, List, [], ◌∷◌, Option, Some}
-use Rattle.race_model.specs.Keyed.{Text}
+use Rattle.base_model.specs.Keyed.{Text}
 use Rattle.race_model.specs.Generations.{Generations, Move, move}
 use Rattle.race_model.specs.History.{FoundSoFar, facts_of, found_after}
 use Rattle.race_model.specs.Worlds.{Race, OneSet, Actor, Entry, Caller, nth, with_nth}

@@ -1,6 +1,6 @@
 -- A journal as a run of one table per version, for several target sets.
 use Rattle.std.specs.Prelude.{◌≡◌, ℕ, true, false, List, [], ◌∷◌, Option, Some, None}
-use Rattle.race_model.specs.Keyed.{Text}
+use Rattle.base_model.specs.Keyed.{Text}
 use Rattle.race_model.specs.Machines.{Settings}
 use Rattle.race_model.specs.Generations.{Generation, Generations, Move, of_alias, told_by, move}
 use Rattle.race_model.specs.Generations.Move.{Stay, Migrate, Install}

@@ -1,6 +1,6 @@
 -- What every schedule of a race of several target sets leaves.
 use Rattle.std.specs.Prelude.{◌≡◌, ◌≢◌, ℕ, ◌+◌, ◌*◌, ◌≤◌, ◌⊎◌, Bool, true, false, List, [], ◌∷◌, Option, Some, None, IsTrue}
-use Rattle.race_model.specs.Keyed.{Text, at, put}
+use Rattle.base_model.specs.Keyed.{Text, at, put}
 use Rattle.race_model.specs.Stores.{Rows, Table, Index, Store, Write}
 use Rattle.race_model.specs.Stores.Request.{Bulk}
 use Rattle.race_model.specs.Machines.{Settings, Cause, Machine, End}

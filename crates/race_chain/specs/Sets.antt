@@ -1,6 +1,6 @@
 -- What a race of several target sets takes for granted.
 use Rattle.std.specs.Prelude.{◌≡◌, ◌≢◌, ℕ, ◌⊎◌, true, false, [], ◌++◌, Option, Some, None}
-use Rattle.race_model.specs.Keyed.{Text}
+use Rattle.base_model.specs.Keyed.{Text}
 use Rattle.race_model.specs.Stores.{Rows, Request, Reply}
 use Rattle.race_model.specs.Stores.Request.{Ping, Get, Search, Bulk}
 use Rattle.race_model.specs.Machines.{Settings, outputs_of}

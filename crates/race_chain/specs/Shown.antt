@@ -1,6 +1,6 @@
 -- What the store shows at the moment when a machine ends as fatal.
 use Rattle.std.specs.Prelude.{◌≡◌, ◌≢◌, ◌⊎◌, true, false, List, [], ◌∷◌, ◌++◌, map, Option, Some}
-use Rattle.race_model.specs.Keyed.{Text, at}
+use Rattle.base_model.specs.Keyed.{Text, at}
 use Rattle.race_model.specs.Stores.{Cell, Rows, Index, Store, Select}
 use Rattle.race_model.specs.Machines.{Settings, Cause, State, batch}
 use Rattle.race_model.specs.Machines.Batch.{Bad}

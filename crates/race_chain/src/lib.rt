@@ -2,7 +2,7 @@
 #![tactic(auto)]
 
 ghost use Rattle.std.specs.Prelude.{◌≡◌, ◌≢◌, ℕ, ◌+◌, ◌*◌, ◌≤◌, Bool, List, [], ◌∷◌, ◌++◌, Option, Some, None, IsTrue};
-ghost use Rattle.race_model.specs.Keyed.{Text};
+ghost use Rattle.base_model.specs.Keyed.{Text};
 ghost use Rattle.race_model.specs.Stores.{Store, Table, Rows};
 ghost use Rattle.race_model.specs.Machines.{Settings, Cause, moved, End};
 ghost use Rattle.race_model.specs.Machines.State.{Ended};

@@ -1,7 +1,7 @@
 -- What a machine asks has its condition.
 use Rattle.std.proofs.Common.{◌≡◌, List, [], ◌∷◌, ◌++◌, Option, Some, None, refl, sym, ◌∙◌, ap, subst, append_assoc}
 use mathlib.Core.Logic.◌⊎◌.{inl, inr}
-use Rattle.race_model.specs.Keyed.{Text}
+use Rattle.base_model.specs.Keyed.{Text}
 use Rattle.race_model.specs.Stores.{Rows, Table, Store, Request}
 use Rattle.race_model.specs.Machines.{Settings, Pass, State, request, switch, outputs_of}
 use Rattle.race_model.specs.Machines.State.{Init, CreateNewTarget, CheckUnknown, SetSourceBlock, CreateTemp, ReindexOpen, ReindexRead, ReindexBulk, ReindexClose, SetTempBlock, CloneTemp, OutdatedOpen, OutdatedRead, OutdatedBulk, OutdatedClose, MarkReady, MarkReadyConflict, Ended}

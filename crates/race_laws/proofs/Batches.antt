@@ -1,16 +1,17 @@
 -- What a batch that is good says of its rows.
 use Rattle.std.proofs.Common.{◌≡◌, ◌⊎◌, List, [], ◌∷◌, ◌++◌, Bool, true, false, Option, Some, None, refl, sym, ◌∙◌, ap, subst, if◌then◌else◌, arith, append_assoc, append-nil}
 use mathlib.Core.Logic.◌⊎◌.{inl, inr}
-use Rattle.race_model.specs.Keyed.{Text, Keyed, same, at, put}
+use Rattle.base_model.specs.Keyed.{Text, Keyed, same, at, put}
 use Rattle.race_model.specs.Stores.{Rows}
-use Rattle.race_model.specs.Machines.{Settings, Outcome, Cause, Pass, Batch, is_unknown, is_corrupt, is_newer, outputs_of, raws_where, met, collision, pass_after, with_front, unless, gathered, where_none, batch, last_of}
-use Rattle.race_model.specs.Machines.Outcome.{Removed, Unknown, TooNew, Corrupt, Outputs}
+use Rattle.race_model.specs.Machines.{Settings, Cause, Pass, Batch, is_unknown, is_corrupt, is_newer, outputs_of, raws_where, met, collision, pass_after, with_front, unless, gathered, where_none, batch, last_of}
+use Rattle.base_model.specs.Outcomes.Outcome.{Removed, Unknown, TooNew, Corrupt, Outputs}
 use Rattle.race_model.specs.Machines.Cause.{UnknownObjects, CorruptObjects, NewerObjects, Collision}
 use Rattle.race_model.specs.Machines.Batch.{Good, Bad}
 use Rattle.race_model.specs.Migrated.{outs}
 use Rattle.race_laws.specs.Premises.{Each, last_key}
 use Rattle.race_laws.proofs.Keys.{same_is, same_refl, at_put}
 use Rattle.race_laws.proofs.Facts.{Lacks, Distinct, IsGood, AllGood, PassOf, MayFail}
+use Rattle.base_model.specs.Outcomes.{Outcome}
 
 same_sym_false : (a b : Text) → same a b ≡ false → same b a ≡ false
 same_sym_false a b e = grind (arith, same_is b a, same_refl a)

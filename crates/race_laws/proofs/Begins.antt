@@ -1,7 +1,7 @@
 -- The opening has the facts.
 use Rattle.std.proofs.Common.{◌≡◌, ◌≢◌, ℕ, zero, suc, List, [], ◌∷◌, replicate, false, Some, None, refl, sym, ◌∙◌, subst}
 use mathlib.Core.Logic.◌⊎◌.{inl, inr}
-use Rattle.race_model.specs.Keyed.{Text, at}
+use Rattle.base_model.specs.Keyed.{Text, at}
 use Rattle.race_model.specs.Stores.{Table, Store}
 use Rattle.race_model.specs.Machines.{Settings}
 use Rattle.race_model.specs.Worlds.{OneSet, Caller, callers_of}

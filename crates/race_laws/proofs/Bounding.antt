@@ -2,7 +2,7 @@
 use Rattle.std.proofs.Common.{◌≡◌, ◌≢◌, ℕ, ◌+◌, ◌<◌, List, ◌∷◌, Bool, true, false, Option, Some, None, refl, sym, ◌∙◌, ap, subst, if◌then◌else◌, ◌==◌, arith}
 use Rattle.std.proofs.lemmas.Bool.Decides.{nat_tests}
 use mathlib.Core.Logic.◌⊎◌.{inl, inr}
-use Rattle.race_model.specs.Keyed.{Text, at}
+use Rattle.base_model.specs.Keyed.{Text, at}
 use Rattle.race_model.specs.Stores.{Rows, Table, Store, Request, serve, pit_at, meant, read_over, close_over, bulk_over, create_over, block_over, clone_over, search_over, act_all, acted_answer, seen}
 use Rattle.race_model.specs.Stores.Acted.{Now}
 use Rattle.race_model.specs.Stores.Reply.{Seen}

@@ -1,7 +1,7 @@
 -- A client's request keeps the facts of the store, and shows a client of the new version fresh documents alone.
 use Rattle.std.proofs.Common.{◌≡◌, ◌⊎◌, List, [], ◌∷◌, Bool, true, false, Option, Some, None, refl, sym, subst}
 use mathlib.Core.Logic.◌⊎◌.{inl, inr}
-use Rattle.race_model.specs.Keyed.{Text, at}
+use Rattle.base_model.specs.Keyed.{Text, at}
 use Rattle.race_model.specs.Stores.{Cell, Rows, Table, Index, Store, Write, Request, serve, write_all, meant, bulk_over, bulk_in, get_over, search_over, found, found_one}
 use Rattle.race_model.specs.Stores.Request.{Ping, Get, Search, Bulk}
 use Rattle.race_model.specs.Machines.{Settings}

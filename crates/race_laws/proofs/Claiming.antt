@@ -1,7 +1,7 @@
 -- The claims, from the facts.
 use Rattle.std.proofs.Common.{◌≡◌, ◌≢◌, ℕ, List, [], ◌∷◌, ◌++◌, Bool, true, false, Option, Some, None, refl, sym, ◌∙◌, ap, subst, IsTrue}
 use mathlib.Core.Logic.◌⊎◌.{inl, inr}
-use Rattle.race_model.specs.Keyed.{Text, same, at}
+use Rattle.base_model.specs.Keyed.{Text, same, at}
 use Rattle.race_model.specs.Stores.{Table, Index, Store, Write, Request}
 use Rattle.race_model.specs.Stores.Request.{Ping, Create, Block, Clone, OpenPit, ReadPit, ClosePit, Get, Search, Bulk, Aliases}
 use Rattle.race_model.specs.Machines.{Settings, Cause, StateName, End, Machine}

@@ -1,7 +1,7 @@
 -- Each reply that a machine hears brings it nearer to its end: it never looks again.
 use Rattle.std.proofs.Common.{◌≡◌, ℕ, suc, ◌+◌, ◌*◌, ◌≤◌, ◌⊎◌, List, [], ◌∷◌, ◌++◌, Bool, true, false, Option, Some, None, refl, sym, ◌∙◌, ap, subst, arith, append_assoc}
 use mathlib.Core.Logic.◌⊎◌.{inl, inr}
-use Rattle.race_model.specs.Keyed.{Text, at}
+use Rattle.base_model.specs.Keyed.{Text, at}
 use Rattle.race_model.specs.Stores.{Rows, Table, Index, Store, Write, Request, serve, pit_at, meant, create_over, block_over, clone_over, open_over, read_over, close_over, bulk_over, bulk_in, act_all, acted_answer, seen}
 use Rattle.race_model.specs.Stores.Acted.{Now}
 use Rattle.race_model.specs.Stores.Reply.{Seen, Selected}

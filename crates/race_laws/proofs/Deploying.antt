@@ -1,7 +1,7 @@
 -- The facts of an empty opening hold along every journal that conforms.
 use Rattle.std.proofs.Common.{◌≡◌, ◌≢◌, ℕ, List, [], ◌∷◌, false, Option, Some, None, refl, sym, ◌∙◌, subst}
 use mathlib.Core.Logic.◌⊎◌.{inl, inr}
-use Rattle.race_model.specs.Keyed.{Text, at}
+use Rattle.base_model.specs.Keyed.{Text, at}
 use Rattle.race_model.specs.Stores.{Index, Store, Request, serve, empty_table}
 use Rattle.race_model.specs.Machines.{StateName, Settings, End, State, Machine}
 use Rattle.race_model.specs.Machines.End.{Fatal, GaveUp}

@@ -2,7 +2,7 @@
 use Rattle.std.proofs.Common.{◌≡◌, ◌≢◌, ℕ, ◌+◌, ◌<◌, ◌≤◌, ◌⊎◌, List, [], ◌∷◌, Bool, true, false, Option, Some, None, refl, sym, ◌∙◌, subst, if◌then◌else◌, ◌==◌, arith}
 use Rattle.std.proofs.lemmas.Bool.Decides.{nat_tests}
 use mathlib.Core.Logic.◌⊎◌.{inl, inr}
-use Rattle.race_model.specs.Keyed.{Text, Keyed, at, put}
+use Rattle.base_model.specs.Keyed.{Text, Keyed, at, put}
 use Rattle.race_model.specs.Stores.{Rows, Index, Store, Write, Request, serve, write_all, empty_table, pit_at, close, meant, with_index, with_aliases, create_over, open_over, read_over, close_over, bulk_over, bulk_in, get_over, search_over, act, act_all, acted_answer, seen}
 use Rattle.race_model.specs.Stores.Acted.{Now}
 use Rattle.race_model.specs.Stores.Action.{Add}

@@ -1,7 +1,7 @@
 -- The bound, along every journal that conforms.
 use Rattle.std.proofs.Common.{◌≡◌, ◌≢◌, ℕ, zero, suc, ◌+◌, ◌*◌, ◌≤◌, List, [], ◌∷◌, replicate, Bool, true, false, Option, Some, None, refl, sym, ◌∙◌, ap, subst, if◌then◌else◌, ◌==◌, arith}
 use Rattle.std.proofs.lemmas.Bool.Decides.{nat_tests}
-use Rattle.race_model.specs.Keyed.{Text, at}
+use Rattle.base_model.specs.Keyed.{Text, at}
 use Rattle.race_model.specs.Stores.{Rows, Table, Index, Store, Request, serve}
 use Rattle.race_model.specs.Stores.Reply.{Selected}
 use Rattle.race_model.specs.Stores.Request.{ClosePit}

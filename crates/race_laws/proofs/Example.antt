@@ -1,10 +1,10 @@
 -- A race for which all premises hold.
 use Rattle.std.proofs.Common.{◌≡◌, ℕ, zero, suc, ◌+◌, [], ◌∷◌, ◌++◌, length, take, drop, Bool, true, false, Option, Some, None, refl, sym, ap, subst, if◌then◌else◌, IsTrue, nat_lt}
 use mathlib.Core.Logic.◌⊎◌.{inr}
-use Rattle.race_model.specs.Keyed.{Text, same, text_lt}
+use Rattle.base_model.specs.Keyed.{Text, same, text_lt}
 use Rattle.race_model.specs.Stores.{Rows, Request, Write}
 use Rattle.race_model.specs.Stores.Request.{Bulk}
-use Rattle.race_model.specs.Machines.Outcome.{Outputs}
+use Rattle.base_model.specs.Outcomes.Outcome.{Outputs}
 use Rattle.race_model.specs.Journals.{Has}
 use Rattle.race_model.specs.Worlds.{OneSet}
 use Rattle.race_laws.specs.Premises.{AllAbove, IsSorted, last_key, Names, Each, FreshWrites, IsClients}

@@ -1,10 +1,10 @@
 -- What holds of the store and of each machine once the source is blocked, and what lasts.
 use Rattle.std.proofs.Common.{◌≡◌, ℕ, ◌<◌, ◌≤◌, ◌⊎◌, List, [], ◌∷◌, ◌++◌, true, false, Option, Some, None}
-use Rattle.race_model.specs.Keyed.{Text, Keyed, same, at}
+use Rattle.base_model.specs.Keyed.{Text, Keyed, same, at}
 use Rattle.race_model.specs.Stores.{Rows, Table, Index, Store, Request, renumbered, pit_at}
 use Rattle.race_model.specs.Stores.Request.{Create, Block, Clone, Bulk, Aliases}
-use Rattle.race_model.specs.Machines.{Settings, Outcome, Cause, End, Finish, Pass, State, switch, creates}
-use Rattle.race_model.specs.Machines.Outcome.{Removed, Outputs}
+use Rattle.race_model.specs.Machines.{Settings, Cause, End, Finish, Pass, State, switch, creates}
+use Rattle.base_model.specs.Outcomes.Outcome.{Removed, Outputs}
 use Rattle.race_model.specs.Machines.Cause.{UnknownObjects, CorruptObjects, NewerObjects, Collision}
 use Rattle.race_model.specs.Machines.End.{Fatal, GaveUp}
 use Rattle.race_model.specs.Machines.Finish.{Stands, Switch}
@@ -14,6 +14,7 @@ use Rattle.race_model.specs.Migrated.{outs}
 use Rattle.race_laws.specs.Premises.{IsSorted, Each, last_key}
 use Rattle.race_laws.proofs.Keys.{NoneOn}
 use Rattle.race_laws.proofs.Tables.{Only, Holds, AllHas}
+use Rattle.base_model.specs.Outcomes.{Outcome}
 
 -- no output of these has the raw id
 unfoldable pub Lacks : {D : Type 0} → Text → List (Text × D) → Type 0

@@ -1,12 +1,12 @@
 -- Every journal that conforms is a history of generations, request by request.
 use Rattle.std.proofs.Common.{◌≡◌, ◌≢◌, ℕ, ◌⊎◌, List, [], ◌∷◌, Bool, true, false, Option, Some, None, refl, sym, ◌∙◌, ap, subst, if◌then◌else◌}
 use mathlib.Core.Logic.◌⊎◌.{inl, inr}
-use Rattle.race_model.specs.Keyed.{Text, same, at, put}
+use Rattle.base_model.specs.Keyed.{Text, same, at, put}
 use Rattle.race_model.specs.Stores.{Rows, Table, Index, Store, Write, Request, serve, write_all, renumbered, meant, with_index, create_over, block_over, clone_over, copy_of, open_over, close_over, bulk_over, bulk_in, get_over, search_over, act_all, acted_answer, pit_at}
 use Rattle.race_model.specs.Stores.Request.{Ping, Create, Block, Clone, OpenPit, ReadPit, ClosePit, Get, Search, Bulk, Aliases}
 use Rattle.race_model.specs.Stores.Acted.{Now}
-use Rattle.race_model.specs.Machines.{Settings, Outcome, switch}
-use Rattle.race_model.specs.Machines.Outcome.{Removed, Unknown, TooNew, Corrupt, Outputs}
+use Rattle.race_model.specs.Machines.{Settings, switch}
+use Rattle.base_model.specs.Outcomes.Outcome.{Removed, Unknown, TooNew, Corrupt, Outputs}
 use Rattle.race_model.specs.Migrated.{outs}
 use Rattle.race_model.specs.Generations.{Generation, Generations, Move, of_alias, told_by, left_by, written_in, with_table, get_in, search_in, bulk_reply, bulk_in_one, migrate, move, shown}
 use Rattle.race_model.specs.Generations.Move.{Stay, Migrate}
@@ -18,6 +18,7 @@ use Rattle.race_laws.proofs.Tables.{each_more}
 use Rattle.race_laws.proofs.Facts.{Is, Before, IsGood, Lacks, Distinct, Clean, Whole, StoreOk, Cond}
 use Rattle.race_laws.proofs.Tablemaking.{whole_migrated}
 use Rattle.race_laws.proofs.Serving.{request_served, apart, none_some, meant_itself, meant_alias, switch_now, switch_stuck, switched_store, is_switched, other_alias}
+use Rattle.base_model.specs.Outcomes.{Outcome}
 
 good_outcome : {D : Type 0} (o : Outcome D) → IsGood o → IsGoodOutcome o
 good_outcome Removed g = g

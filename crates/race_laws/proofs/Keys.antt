@@ -3,7 +3,7 @@ use Rattle.std.proofs.Common.{◌≡◌, ◌≢◌, ℕ, ◌⊎◌, List, [], �
 use Rattle.std.proofs.lemmas.Slice.Eq.{bytes_eq-Decides}
 use Rattle.std.proofs.lemmas.Bool.Decides.{nat_tests}
 use mathlib.Core.Logic.◌⊎◌.{inl, inr}
-use Rattle.race_model.specs.Keyed.{Text, Keyed, same, text_lt, at, put, without}
+use Rattle.base_model.specs.Keyed.{Text, Keyed, same, text_lt, at, put, without}
 use Rattle.race_model.specs.Stores.{Rows, pit_at, close, aliases_without}
 
 pub same_true : (a b : Text) → same a b ≡ true → a ≡ b

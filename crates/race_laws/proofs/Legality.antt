@@ -1,7 +1,7 @@
 -- Every journal that conforms is legal, where the plans are what they owe.
 use Rattle.std.proofs.Common.{◌≡◌, ℕ, zero, suc, List, [], ◌∷◌, ◌++◌, Bool, true, false, Option, Some, None, refl, sym, ◌∙◌, ap, subst}
 use mathlib.Core.Logic.◌⊎◌.{inl, inr}
-use Rattle.race_model.specs.Keyed.{Text}
+use Rattle.base_model.specs.Keyed.{Text}
 use Rattle.race_model.specs.Stores.{Table, Store, Request, serve}
 use Rattle.race_model.specs.Machines.{Settings}
 use Rattle.race_model.specs.Generations.{Generations, Move, told_by, left_by, move, shown}

@@ -2,7 +2,7 @@
 use Rattle.std.proofs.Common.{◌≡◌, ℕ, ◌+◌, ◌⊎◌, List, [], ◌∷◌, ◌++◌, Bool, true, false, Option, Some, None, refl, sym, ◌∙◌, ap, subst, if◌then◌else◌, arith, append_assoc, append-nil}
 use Rattle.std.proofs.lemmas.Bool.Decides.{nat_tests}
 use mathlib.Core.Logic.◌⊎◌.{inl, inr}
-use Rattle.race_model.specs.Keyed.{Text, Keyed, same, at}
+use Rattle.base_model.specs.Keyed.{Text, Keyed, same, at}
 use Rattle.race_model.specs.Stores.{Rows, Table, Index, IndexSeen, Store, Request, Reply, serve, write_all, renumbered, empty_table, pit_at, meant, create_over, block_over, clone_over, copy_of, open_over, read_over, close_over, bulk_over, bulk_in, act_all, acted_answer, seen, search_over}
 use Rattle.race_model.specs.Stores.Acted.{Now}
 use Rattle.race_model.specs.Stores.Reply.{Done, Seen, Pit, Selected, Found, Items, Refused}

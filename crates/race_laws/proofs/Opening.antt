@@ -1,7 +1,7 @@
 -- Before the source is blocked little happens, and the block leads to the facts.
 use Rattle.std.proofs.Common.{◌≡◌, ℕ, ◌⊎◌, List, [], ◌∷◌, true, false, Option, Some, None, refl, sym, ◌∙◌, subst}
 use mathlib.Core.Logic.◌⊎◌.{inl, inr}
-use Rattle.race_model.specs.Keyed.{Text, at, put}
+use Rattle.base_model.specs.Keyed.{Text, at, put}
 use Rattle.race_model.specs.Stores.{Table, Index, Store, Write, Request, Reply, serve, write_all, meant, with_index, block_over, bulk_over, get_over, search_over}
 use Rattle.race_model.specs.Stores.Request.{Ping, Create, Block, Clone, OpenPit, ReadPit, ClosePit, Get, Search, Bulk, Aliases}
 use Rattle.race_model.specs.Stores.Reply.{Done, Seen, Pit, Selected, Found, Items, Refused}

@@ -1,7 +1,7 @@
 -- Each pit that a machine reads is its own, and nobody closes it before it is read.
 use Rattle.std.proofs.Common.{◌≡◌, ◌≢◌, ℕ, ◌<◌, ◌≤◌, List, [], ◌∷◌, Bool, true, false, Option, Some, None, refl, ◌∙◌, subst, if◌then◌else◌, ◌==◌, arith}
 use Rattle.std.proofs.lemmas.Bool.Decides.{nat_tests}
-use Rattle.race_model.specs.Keyed.{Text, same, at, without}
+use Rattle.base_model.specs.Keyed.{Text, same, at, without}
 use Rattle.race_model.specs.Stores.{Rows, Table, Index, IndexSeen, Store, Write, Action, Acted, Request, Reply, serve, pit_at, meant, create_over, block_over, clone_over, copy_of, open_over, close_over, bulk_over, bulk_in, remove_over, add_over, drop_over, with_aliases, act, act_all, acted_answer}
 use Rattle.race_model.specs.Stores.Request.{Ping, Create, Block, Clone, OpenPit, ReadPit, ClosePit, Get, Search, Bulk, Aliases}
 use Rattle.race_model.specs.Stores.Reply.{Done, Seen, Selected, Items, Refused}

@@ -1,7 +1,7 @@
 -- The facts hold along every journal that conforms, once the source is blocked.
 use Rattle.std.proofs.Common.{◌≡◌, ℕ, zero, suc, List, [], ◌∷◌, Bool, true, false, Option, Some, None, refl, sym, subst, if◌then◌else◌, ◌==◌}
 use mathlib.Core.Logic.◌⊎◌.{inl, inr}
-use Rattle.race_model.specs.Keyed.{Text}
+use Rattle.base_model.specs.Keyed.{Text}
 use Rattle.race_model.specs.Stores.{Table, Store, Request, serve}
 use Rattle.race_model.specs.Machines.{Settings, State}
 use Rattle.race_model.specs.Machines.State.{Init}

@@ -1,7 +1,7 @@
 -- The whole journal, as a history of generations.
 use Rattle.std.proofs.Common.{◌≡◌, ℕ, List, [], ◌∷◌, true, false, Option, Some, None, refl, sym, ◌∙◌, subst}
 use mathlib.Core.Logic.◌⊎◌.{inl, inr}
-use Rattle.race_model.specs.Keyed.{Text, at}
+use Rattle.base_model.specs.Keyed.{Text, at}
 use Rattle.race_model.specs.Stores.{Table, Store, Request, Reply, serve}
 use Rattle.race_model.specs.Stores.Request.{Ping, Create, Block, Clone, OpenPit, ReadPit, ClosePit, Get, Search, Bulk, Aliases}
 use Rattle.race_model.specs.Machines.{Settings}

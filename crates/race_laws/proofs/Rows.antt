@@ -1,12 +1,12 @@
 -- Worked schedules, computed.
 use Rattle.std.proofs.Common.{◌≡◌, ℕ, zero, suc, ◌+◌, List, [], ◌∷◌, ◌++◌, length, take, Bool, true, false, Option, Some, None, refl, if◌then◌else◌, nat_lt, ◌==◌}
-use Rattle.race_model.specs.Keyed.{Text, same, text_lt, at, put, without}
+use Rattle.base_model.specs.Keyed.{Text, same, text_lt, at, put, without}
 use Rattle.race_model.specs.Stores.{Rows, Store, Request, Reply, write, write_all, items_of, numbered, pit_at, close, meant, aliases_without, act, act_all, serve}
 use Rattle.race_model.specs.Stores.Request.{Create, Block, Clone}
 use Rattle.race_model.specs.Stores.Reply.{Done, Seen, Refused}
 use Rattle.race_model.specs.Stores.Refusal.{Exists}
 use Rattle.race_model.specs.Machines.{Settings, State, Machine, request, moved, raws_where, collision, pass_after, gathered, batch, last_of, rewrites, End, StateName}
-use Rattle.race_model.specs.Machines.Outcome.{Outputs}
+use Rattle.base_model.specs.Outcomes.Outcome.{Outputs}
 use Rattle.race_model.specs.Machines.Cause.{OtherVersion, Leftover, NewerIndex}
 use Rattle.race_model.specs.Machines.State.{Init, ReindexOpen, Ended}
 use Rattle.race_model.specs.Machines.End.{Fatal, GaveUp}

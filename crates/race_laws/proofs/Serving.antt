@@ -2,7 +2,7 @@
 use Rattle.std.proofs.Common.{◌≡◌, ◌≢◌, ℕ, ◌+◌, ◌<◌, ◌≤◌, ◌⊎◌, List, [], ◌∷◌, ◌++◌, Bool, true, false, Option, Some, None, refl, sym, ◌∙◌, ap, subst, if◌then◌else◌, ◌==◌, arith}
 use Rattle.std.proofs.lemmas.Bool.Decides.{nat_tests}
 use mathlib.Core.Logic.◌⊎◌.{inl, inr}
-use Rattle.race_model.specs.Keyed.{Text, Keyed, at, put, without}
+use Rattle.base_model.specs.Keyed.{Text, Keyed, at, put, without}
 use Rattle.race_model.specs.Stores.{Item, write, written, dropped, expected, new_over, put_over, delete_over, Cell, Rows, Table, Index, Store, Write, Action, Request, Refusal, serve, write_all, renumbered, empty_table, pit_at, close, meant, index_of, with_index, with_aliases, create_over, block_over, clone_over, copy_of, open_over, close_over, bulk_over, bulk_in, act, act_all, acted_answer}
 use Rattle.race_model.specs.Stores.Write.{Put, Delete}
 use Rattle.race_model.specs.Stores.Item.{Written, Conflict}

@@ -1,7 +1,7 @@
 -- A whole temporary table, numbered anew, is the migrated table.
 use Rattle.std.proofs.Common.{◌≡◌, ◌≢◌, ℕ, suc, ◌+◌, List, [], ◌∷◌, length, Bool, true, false, Option, Some, None, refl, sym, ◌∙◌, ap, subst, if◌then◌else◌, arith}
 use mathlib.Core.Logic.◌⊎◌.{inl, inr}
-use Rattle.race_model.specs.Keyed.{Text, Keyed, same, text_lt, at, put}
+use Rattle.base_model.specs.Keyed.{Text, Keyed, same, text_lt, at, put}
 use Rattle.race_model.specs.Stores.{Cell, Rows, Table, numbered, renumbered}
 use Rattle.race_model.specs.Machines.{Settings}
 use Rattle.race_model.specs.Migrated.{outs, collected, cells, migrated}

@@ -2,7 +2,7 @@
 use Rattle.std.proofs.Common.{◌≡◌, ℕ, ◌+◌, List, [], ◌∷◌, ◌++◌, Bool, true, false, Option, Some, None, refl, sym, ◌∙◌, subst, if◌then◌else◌, arith}
 use Rattle.std.proofs.lemmas.Bool.Decides.{nat_tests}
 use mathlib.Core.Logic.◌⊎◌.{inl, inr}
-use Rattle.race_model.specs.Keyed.{Text, Keyed, same, text_lt, at, put, without}
+use Rattle.base_model.specs.Keyed.{Text, Keyed, same, text_lt, at, put, without}
 use Rattle.race_model.specs.Stores.{Cell, Rows, Table, Write, Item, write, write_all, written, dropped, expected, new_over, put_over, delete_over, numbered}
 use Rattle.race_model.specs.Stores.Write.{Put, Delete}
 use Rattle.race_model.specs.Stores.Item.{Written, Conflict}

@@ -1,11 +1,11 @@
 -- What every schedule of a race leaves.
 use Rattle.std.specs.Prelude.{◌≡◌, ◌≢◌, None, ℕ, Bool, true, false, List, [], ◌∷◌, Some, IsTrue}
-use Rattle.race_model.specs.Keyed.{Text, same, at, put}
+use Rattle.base_model.specs.Keyed.{Text, same, at, put}
 use Rattle.race_model.specs.Stores.{Rows, Table, Index, Store, Write}
 use Rattle.race_model.specs.Stores.Request.{Bulk, Aliases}
 use Rattle.race_model.specs.Stores.Reply.{Done}
-use Rattle.race_model.specs.Machines.{Settings, Outcome, Cause, Machine, switch, End}
-use Rattle.race_model.specs.Machines.Outcome.{Removed, Outputs}
+use Rattle.race_model.specs.Machines.{Settings, Cause, Machine, switch, End}
+use Rattle.base_model.specs.Outcomes.Outcome.{Removed, Outputs}
 use Rattle.race_model.specs.Machines.Cause.{UnknownObjects, CorruptObjects, NewerObjects, Collision}
 use Rattle.race_model.specs.Machines.End.{Fatal}
 use Rattle.race_model.specs.Machines.State.{Ended}
@@ -16,6 +16,7 @@ use Rattle.race_model.specs.Worlds.{OneSet, Actor, Entry, Node, World, nth}
 use Rattle.race_model.specs.Worlds.Actor.{Instance, Client}
 use Rattle.race_model.specs.Journals.{Has}
 use Rattle.race_laws.specs.Premises.{Laws, Each}
+use Rattle.base_model.specs.Outcomes.{Outcome}
 
 -- one open index, with both aliases on it
 abbrev pub opening_of : {D Q : Type 0} → Settings D Q → (source old : Text) → Table D → Store D

@@ -1,6 +1,6 @@
 -- What the race takes for granted of documents, queries, names and clients.
 use Rattle.std.specs.Prelude.{◌≡◌, ◌≢◌, ℕ, suc, ◌≤◌, ◌⊎◌, true, false, List, [], ◌∷◌, ◌++◌, Option, Some, None}
-use Rattle.race_model.specs.Keyed.{Text, Keyed, text_lt}
+use Rattle.base_model.specs.Keyed.{Text, Keyed, text_lt}
 use Rattle.race_model.specs.Stores.{Cell, Rows, Write, Request, Reply}
 use Rattle.race_model.specs.Stores.Write.{Put, Delete}
 use Rattle.race_model.specs.Stores.Request.{Ping, Get, Search, Bulk}

@@ -2,7 +2,7 @@
 #![tactic(auto)]
 
 ghost use Rattle.std.specs.Prelude.{◌≡◌, ℕ, ◌+◌, ◌*◌, ◌≤◌, Bool, List, Some, ◌++◌, IsTrue};
-ghost use Rattle.race_model.specs.Keyed.{Text};
+ghost use Rattle.base_model.specs.Keyed.{Text};
 ghost use Rattle.race_model.specs.Stores.{Store, Table, Rows};
 ghost use Rattle.race_model.specs.Worlds.{Race, OneSet, alike, Entry, Event, nth, run, callers_of, open_world};
 ghost use Rattle.race_model.specs.Journals.{Conforms, Past, state_of, heard_of, all_followed, open_trace};

@@ -1,6 +1,6 @@
 -- The store as the clients know it: one table for each version.
 use Rattle.std.specs.Prelude.{Bool, true, false, List, [], ◌∷◌, Option, Some, None, if◌then◌else◌}
-use Rattle.race_model.specs.Keyed.{Text, same, at}
+use Rattle.base_model.specs.Keyed.{Text, same, at}
 use Rattle.race_model.specs.Stores.{Table, empty_table, Index, Store, Select, Write, Request, Reply, found, items_of, write_all}
 use Rattle.race_model.specs.Stores.Request.{Get, Search, Bulk}
 use Rattle.race_model.specs.Stores.Reply.{Done, Selected, Found, Items, Refused}

@@ -1,6 +1,6 @@
 -- The facts of a journal: its blocks, migrations and installs, by playing the aliases.
 use Rattle.std.specs.Prelude.{ℕ, ◌+◌, Bool, true, false, List, [], ◌∷◌, ◌++◌, Option, Some, None, if◌then◌else◌}
-use Rattle.race_model.specs.Keyed.{Text, same}
+use Rattle.base_model.specs.Keyed.{Text, same}
 use Rattle.race_model.specs.Stores.{Action, Request, Reply}
 use Rattle.race_model.specs.Stores.Action.{RemoveMustExist, Add, RemoveIndex}
 use Rattle.race_model.specs.Stores.Request.{Aliases}

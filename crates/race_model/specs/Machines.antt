@@ -1,20 +1,14 @@
 -- An instance of the migration: which request it makes, and how a reply moves it.
 use Rattle.std.specs.Prelude.{ℕ, ◌+◌, ◌*◌, ◌^◌, min, Bool, true, false, List, [], ◌∷◌, ◌++◌, map, Option, Some, None, nat_le, if◌then◌else◌}
-use Rattle.race_model.specs.Keyed.{Text, same, Keyed, at, put}
+use Rattle.base_model.specs.Keyed.{Text, same, Keyed, at, put}
+use Rattle.base_model.specs.Outcomes.{Outcome}
+use Rattle.base_model.specs.Outcomes.Outcome.{Unknown, TooNew, Corrupt, Outputs}
 use Rattle.race_model.specs.Stores.{Rows, Write, IndexSeen, Request, Reply, Refusal, Action}
 use Rattle.race_model.specs.Stores.Write.{Put}
 use Rattle.race_model.specs.Stores.Request.{Create, Block, Clone, OpenPit, ReadPit, ClosePit, Search, Bulk, Aliases}
 use Rattle.race_model.specs.Stores.Reply.{Seen, Pit, Selected, Items, Refused}
 use Rattle.race_model.specs.Stores.Refusal.{Exists, NoIndex, Blocked, NoPit, AliasMissing, AliasTaken}
 use Rattle.race_model.specs.Stores.Action.{RemoveMustExist, Add, RemoveIndex}
-
--- what migrating one document gives
-pub data Outcome (D : Type 0) : Type 0 where
-  Removed : Outcome D
-  Unknown : Outcome D
-  TooNew : Outcome D
-  Corrupt : Outcome D
-  Outputs : List (Text × D) → Outcome D
 
 -- an instance's target set: its version's names, what the machine knows of its registry, and how often it tries
 pub record Settings (D Q : Type 0) : Type 0 where

@@ -1,6 +1,6 @@
 -- The table of all outputs of rows.
 use Rattle.std.specs.Prelude.{ℕ, ◌+◌, List, [], ◌∷◌, ◌++◌, length}
-use Rattle.race_model.specs.Keyed.{Text, Keyed, put}
+use Rattle.base_model.specs.Keyed.{Text, Keyed, put}
 use Rattle.race_model.specs.Stores.{Rows, Table}
 use Rattle.race_model.specs.Machines.{Settings, outputs_of}
 

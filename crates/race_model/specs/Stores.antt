@@ -1,6 +1,6 @@
 -- A store of indices: what a request replies, and what it leaves.
 use Rattle.std.specs.Prelude.{ℕ, ◌+◌, Bool, true, false, List, [], ◌∷◌, length, map, Option, Some, None, ◌==◌, if◌then◌else◌}
-use Rattle.race_model.specs.Keyed.{Text, same, Keyed, at, put, without}
+use Rattle.base_model.specs.Keyed.{Text, same, Keyed, at, put, without}
 
 -- a document and the number of the write that left it
 pub record Cell (D : Type 0) : Type 0 where
