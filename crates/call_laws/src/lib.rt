@@ -1,0 +1,2 @@
+//! The laws of object calls on the tables that they meet.
+#![tactic(auto)]
