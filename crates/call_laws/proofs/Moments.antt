@@ -25,7 +25,7 @@ module _ {A O F : Type 0} (w : Words A O F) (reg : Registry O) (space : Text) (b
   one_act : Stepper A
   one_act raw act t = act_step w reg space blocked raw act t
 
-  do_others : (b : Bool) (raw : Text) (act : Act A) (deed : Deed A) (row : Option (Cell (Doc A))) (t : Table (Doc A)) → Others raw t (do_deed reg b raw act deed row t).0
+  pub do_others : (b : Bool) (raw : Text) (act : Act A) (deed : Deed A) (row : Option (Cell (Doc A))) (t : Table (Doc A)) → Others raw t (do_deed reg b raw act deed row t).0
   do_others b raw act (Deny r) row t = λ other n. refl
   do_others true raw act (Make doc) row t = λ other n. refl
   do_others true raw act (Remake m doc) row t = λ other n. refl

@@ -50,6 +50,11 @@ RefusedAt reg space raw [] [] = Unit {0}
 RefusedAt reg space raw (o ∷ os) (one ∷ ones) = (raw_of reg space (record { type_name = o.type_name; id = o.id }) ≡ raw → (r : Refuse) × (one ≡ One.Refused r)) × RefusedAt reg space raw os ones
 RefusedAt reg space raw _ _ = ⊥
 
+-- every item is refused
+abbrev pub AllRefused : {A : Type 0} → List (One A) → Type 0
+AllRefused [] = Unit {0}
+AllRefused (one ∷ ones) = ((r : Refuse) × (one ≡ One.Refused r)) × AllRefused ones
+
 -- the documents that a first reply showed are up to date
 abbrev pub HeardFresh : {A O : Type 0} → Registry O → Option (Reply (Doc A)) → Type 0
 HeardFresh reg None = Unit {0}
