@@ -3,7 +3,7 @@ use Rattle.std.proofs.Common.{◌≡◌, Bool, true, false, ◌||◌, not, Optio
 use mathlib.Core.Logic.◌⊎◌.{inl, inr}
 use Rattle.base_model.specs.Keyed.{Text, same, at}
 use Rattle.race_model.specs.Stores.{Cell, Rows, Table, Item, write, write_all, written, dropped, put_over, delete_over}
-use Rattle.race_laws.proofs.Keys.{same_true, same_refl, same_is}
+use Rattle.race_tables.proofs.Keys.{same_true, same_refl, same_is}
 use Rattle.document_model.specs.Documents.{Doc, lists}
 use Rattle.document_model.specs.Registries.{Registry, alias_type, known}
 use Rattle.call_model.specs.Words.{Words}

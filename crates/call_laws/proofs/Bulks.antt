@@ -2,7 +2,7 @@
 use Rattle.std.proofs.Common.{◌≡◌, ◌≢◌, ℕ, Bool, true, false, Option, Some, None, List, [], ◌∷◌, refl, sym, ap, subst, ◌==◌, if◌then◌else◌}
 use Rattle.base_model.specs.Keyed.{Text, at}
 use Rattle.race_model.specs.Stores.{Cell, Rows, Table, Item, write, write_all, items_of, written, dropped, expected, found, found_one, new_over, put_over, delete_over}
-use Rattle.race_laws.proofs.Keys.{at_put_other, at_without_other}
+use Rattle.race_tables.proofs.Keys.{at_put_other, at_without_other}
 use Rattle.document_model.specs.Documents.{Doc}
 use Rattle.document_model.specs.Registries.{Registry}
 use Rattle.call_model.specs.Words.{Words}

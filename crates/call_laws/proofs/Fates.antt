@@ -3,7 +3,7 @@ use Rattle.std.proofs.Common.{◌≡◌, ◌⊎◌, Bool, true, false, Option, S
 use mathlib.Core.Logic.◌⊎◌.{inl, inr}
 use Rattle.base_model.specs.Keyed.{Text, same}
 use Rattle.race_model.specs.Generations.{Generations, told_by}
-use Rattle.race_laws.proofs.Keys.{same_refl}
+use Rattle.race_tables.proofs.Keys.{same_refl}
 use Rattle.document_model.specs.Documents.{Doc, lists}
 use Rattle.document_model.specs.Registries.{Registry}
 use Rattle.call_model.specs.Words.{Words}

@@ -5,7 +5,7 @@ use mathlib.Core.Logic.◌⊎◌.{inl, inr}
 use Rattle.base_model.specs.Keyed.{Text, same, at}
 use Rattle.race_model.specs.Stores.{Cell, Rows, Table, written, dropped}
 use Rattle.race_model.specs.Generations.{Generation}
-use Rattle.race_laws.proofs.Keys.{at_put, at_without, same_is, same_true}
+use Rattle.race_tables.proofs.Keys.{at_put, at_without, same_is, same_true}
 use Rattle.version_token.specs.declared.Ver.{Ver}
 use Rattle.space_scope.specs.declared.kind.Kind.{Kind}
 use Rattle.space_scope.specs.declared.kind.Kind.TheVariants.{Single, Multiple, MultipleIsolated, Agnostic}

@@ -5,7 +5,7 @@ use mathlib.Core.Logic.◌⊎◌.{inl, inr}
 use Rattle.base_model.specs.Keyed.{Text, same}
 use Rattle.race_model.specs.Stores.{Cell, Write, Request, Reply}
 use Rattle.race_model.specs.Stores.Request.{Ping, Get, Search, Bulk}
-use Rattle.race_laws.specs.Premises.{FreshWrites, FreshFound, AllFreshFound, FreshReply, IsClients, IsOf}
+use Rattle.race_model.specs.Premises.{FreshWrites, FreshFound, AllFreshFound, FreshReply, IsOf}
 use Rattle.version_token.specs.declared.Ver.{Ver}
 use Rattle.document_model.specs.Documents.{ver_lt, Doc}
 use Rattle.document_model.specs.Registries.{Registry, known}

@@ -4,7 +4,7 @@ use Rattle.base_model.specs.Keyed.{Text, at}
 use Rattle.race_model.specs.Stores.{Index, Store, with_index, Select, Table, Write, Request, Reply, write_all, meant, serve}
 use Rattle.race_model.specs.Stores.Request.{Ping, Get, Search, Bulk}
 use Rattle.race_model.specs.Generations.{Generation, Generations, of_alias, told_by, left_by, written_in}
-use Rattle.race_laws.proofs.Keys.{same_refl, at_put_same, at_put_other}
+use Rattle.race_tables.proofs.Keys.{same_refl, at_put_same, at_put_other}
 use Rattle.document_model.specs.Documents.{Doc}
 use Rattle.document_model.specs.Registries.{Registry}
 use Rattle.call_model.specs.Words.{Words}

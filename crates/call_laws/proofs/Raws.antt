@@ -1,7 +1,7 @@
 -- Two objects have two raw ids, where no space is the other's type.
 use Rattle.std.proofs.Common.{◌≡◌, ◌≢◌, Bool, true, false, [], ◌∷◌, ◌++◌, refl, sym, ◌∙◌, subst}
 use Rattle.base_model.specs.Keyed.{Text, same}
-use Rattle.race_laws.proofs.Keys.{same_true}
+use Rattle.race_tables.proofs.Keys.{same_true}
 use Rattle.document_model.specs.Documents.{Plain, raw_over, raw_id, default_space}
 use Rattle.space_scope.specs.declared.kind.Kind.{Kind}
 use Rattle.space_scope.specs.declared.kind.Kind.TheVariants.{Single, Multiple, MultipleIsolated, Agnostic}

@@ -4,7 +4,7 @@ use mathlib.Core.Logic.◌⊎◌.{inl, inr}
 use Rattle.base_model.specs.Keyed.{Text, at}
 use Rattle.race_model.specs.Stores.{Cell, Rows, Table, empty_table}
 use Rattle.race_model.specs.Generations.{Generation}
-use Rattle.race_laws.proofs.Keys.{same_is}
+use Rattle.race_tables.proofs.Keys.{same_is}
 use Rattle.document_model.specs.Documents.{Doc, lists}
 use Rattle.document_model.specs.Registries.{Registry}
 use Rattle.query_model.specs.declared.parts.Target.{Target}

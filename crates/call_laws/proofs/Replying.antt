@@ -5,8 +5,8 @@ use Rattle.base_model.specs.Keyed.{Text, Keyed, same, at, text_lt}
 use Rattle.race_model.specs.Stores.{Cell, Rows, Table, Index, IndexSeen, Store, Select, Write, Item, Action, Request, Reply, Acted, write, write_all, items_of, found, found_one, new_over, put_over, delete_over, written, dropped, expected, create_over, block_over, clone_over, copy_of, open_over, read_over, pit_at, close_over, get_over, search_over, bulk_over, bulk_in, seen, act, act_all, acted_answer, remove_over, add_over, drop_over, meant, serve}
 use Rattle.race_model.specs.Stores.Acted.{Now, Stuck}
 use Rattle.race_model.specs.Generations.{Generation, Generations, of_alias, get_in, search_in, bulk_reply, bulk_in_one, told_by}
-use Rattle.race_laws.specs.Premises.{AllAbove, IsSorted}
-use Rattle.race_laws.proofs.Keys.{same_refl}
+use Rattle.race_model.specs.Sorted.{AllAbove, IsSorted}
+use Rattle.race_tables.proofs.Keys.{same_refl}
 use Rattle.call_model.specs.Replies.{rises_from, rises, at_most, is_of, are_of, fits_item, fits_items, fits_reply}
 
 -- at most as many rows as each query takes

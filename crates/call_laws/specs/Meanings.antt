@@ -6,7 +6,7 @@ use Rattle.race_model.specs.Stores.Request.{Ping, Get, Search, Bulk}
 use Rattle.race_model.specs.Stores.Write.{Put}
 use Rattle.race_model.specs.Stores.Reply.{Selected, Found}
 use Rattle.race_model.specs.Generations.{Generation, Generations, of_alias}
-use Rattle.race_laws.specs.Premises.{FreshWrites, FreshReply}
+use Rattle.race_model.specs.Premises.{FreshWrites, FreshReply}
 use Rattle.document_model.specs.Documents.{Doc}
 use Rattle.document_model.specs.Registries.{Known, Registry, alias_type, known, fits}
 use Rattle.query_model.specs.Queries.{Query}

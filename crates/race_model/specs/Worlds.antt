@@ -17,15 +17,6 @@ pub record Race (D Q C : Type 0) : Type 0 where
   pub settings : (instance : ℕ) → Settings D Q
   pub clients : Clients D Q C
 
--- a race whose instances all are of one target set
-pub record OneSet (D Q C : Type 0) : Type 0 where
-  pub select : Select D Q
-  pub settings : Settings D Q
-  pub clients : Clients D Q C
-
-abbrev pub alike : {D Q C : Type 0} → OneSet D Q C → Race D Q C
-alike one = record { select = one.select; settings = λ instance. one.settings; clients = one.clients }
-
 pub data Actor : Type 0 where
   Instance : ℕ → Actor
   Client : ℕ → Actor

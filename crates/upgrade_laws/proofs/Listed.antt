@@ -1,7 +1,7 @@
 -- Each listed type is what the registry knows by its name, where no name stands twice.
 use Rattle.std.proofs.Common.{◌≡◌, Bool, true, false, ◌&&◌, not, Some, [], ◌∷◌, refl, sym, if◌then◌else◌}
 use Rattle.base_model.specs.Keyed.{Text, Keyed, same, at}
-use Rattle.race_laws.proofs.Keys.{same_false, same_refl, apart_from_false}
+use Rattle.race_tables.proofs.Keys.{same_false, same_refl, apart_from_false}
 use Rattle.document_model.specs.Documents.{lists}
 use Rattle.document_model.specs.Registries.{Known, Registry, alias_type, known}
 use Rattle.call_model.specs.Upgrades.{type_names, names_apart}

@@ -1,0 +1,4 @@
+pub mod Showing
+pub mod Calm
+pub mod Claiming
+pub mod Laws
