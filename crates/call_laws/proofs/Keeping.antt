@@ -24,6 +24,7 @@ use Rattle.call_model.specs.Plans.{Next, Ready, ready_over, cell_of, readied, ra
 use Rattle.call_model.specs.Plans.Next.{Answers, Asks}
 use Rattle.call_model.specs.Scripts.{Script, first, next, asked, asks_over, moved_on, told_over, clients}
 use Rattle.call_model.specs.Upgrades.{up_to_date, is_fresh}
+use Rattle.call_laws.specs.Meanings.{HeardFresh, AsksOnly, WritesFresh}
 
 lt_self : (n : ℕ) → nat_lt n n ≡ false
 lt_self n = grind (arith, nat_tests)
@@ -221,7 +222,7 @@ module _ {A O F : Type 0} (w : Words A O F) (reg : Registry O) where
       by (Answers a) m = tt
       by (Asks second) m = let is : first w reg call ≡ ask = cc in f (subst (IsOf (w.version_alias reg.version)) is m.0)
 
-  script_registry : (c : Script A O) (calls : List (Call A)) (heard : Option (Reply (Doc A))) (reply : Reply (Doc A)) → (told_over w c calls heard reply).registry ≡ c.registry
+  pub script_registry : (c : Script A O) (calls : List (Call A)) (heard : Option (Reply (Doc A))) (reply : Reply (Doc A)) → (told_over w c calls heard reply).registry ≡ c.registry
   script_registry c [] heard reply = refl
   script_registry c (call ∷ calls) (Some r) reply = refl
   script_registry c (call ∷ calls) None reply = by (next w c.registry call reply)
@@ -229,3 +230,50 @@ module _ {A O F : Type 0} (w : Words A O F) (reg : Registry O) where
       by : (n : Next A F) → (moved_on c calls reply n).registry ≡ c.registry
       by (Answers a) = refl
       by (Asks second) = refl
+
+-- the laws of clients, in the words of the laws
+module _ {A O F : Type 0} (w : Words A O F) (c : Script A O) (ask : Request (Doc A) (Query F)) where
+  heard_in : (h : Option (Reply (Doc A))) → HeardFresh c.registry h → FreshHeard w c.registry h
+  heard_in None f = tt
+  heard_in (Some r) f = f
+
+  heard_out : (h : Option (Reply (Doc A))) → FreshHeard w c.registry h → HeardFresh c.registry h
+  heard_out None f = tt
+  heard_out (Some r) f = f
+
+  only_of : (x : Request (Doc A) (Query F)) → OnAlias w c.registry x → AsksOnly (w.version_alias c.registry.version) x
+  only_of Ping o = tt
+  only_of (Get n raws) o = o
+  only_of (Search n query) o = o
+  only_of (Bulk n writes) o = o
+  only_of Request.State o = absurd o
+  only_of (Request.Create n from) o = absurd o
+  only_of (Request.Block n) o = absurd o
+  only_of (Request.Clone n m) o = absurd o
+  only_of (Request.OpenPit n) o = absurd o
+  only_of (Request.ReadPit p q) o = absurd o
+  only_of (Request.ClosePit p) o = absurd o
+  only_of (Request.Aliases actions) o = absurd o
+
+  pub script_asks_only : (clients w).asks c ≡ Some ask → AsksOnly (w.version_alias c.registry.version) ask
+  script_asks_only e = only_of ask (script_on_alias w c.registry c.calls c.heard ask e)
+
+  fresh_of : (x : Request (Doc A) (Query F)) → FreshAsk w c.registry x → WritesFresh {F = F} c.registry x
+  fresh_of (Bulk n writes) f = f
+  fresh_of Ping f = tt
+  fresh_of (Get n raws) f = tt
+  fresh_of (Search n query) f = tt
+  fresh_of Request.State f = tt
+  fresh_of (Request.Create n from) f = tt
+  fresh_of (Request.Block n) f = tt
+  fresh_of (Request.Clone n m) f = tt
+  fresh_of (Request.OpenPit n) f = tt
+  fresh_of (Request.ReadPit p q) f = tt
+  fresh_of (Request.ClosePit p) f = tt
+  fresh_of (Request.Aliases actions) f = tt
+
+  pub script_writes_fresh : (clients w).asks c ≡ Some ask → HeardFresh c.registry c.heard → WritesFresh {F = F} c.registry ask
+  script_writes_fresh e h = fresh_of ask (script_fresh w c.registry c.calls c.heard ask (heard_in c.heard h) e)
+
+  pub script_hears : (reply : Reply (Doc A)) → (clients w).asks c ≡ Some ask → HeardFresh c.registry (Some reply) → HeardFresh c.registry ((clients w).told c reply).heard
+  script_hears reply e h = heard_out ((clients w).told c reply).heard (script_keeps w c.registry c.calls c.heard c.number ask reply e (λ i. h))

@@ -8,6 +8,7 @@ pub mod Moments
 pub mod Versions
 pub mod Fitting
 pub mod Replying
+pub mod Resolving
 pub mod Keeping
 pub mod Performing
 pub mod Raws

@@ -1,5 +1,5 @@
 -- The store's replies fit their requests.
-use Rattle.std.proofs.Common.{◌≡◌, ℕ, zero, suc, ◌≤◌, Bool, true, false, ◌&&◌, not, Option, Some, None, List, [], ◌∷◌, length, take, map, refl, sym, ◌∙◌, ap, subst, arith, ◌==◌, if◌then◌else◌, nat_le}
+use Rattle.std.proofs.Common.{◌≡◌, ℕ, zero, suc, ◌≤◌, Bool, true, false, ◌&&◌, not, Option, Some, None, List, [], ◌∷◌, length, take, drop, map, refl, sym, ◌∙◌, ap, subst, arith, ◌==◌, if◌then◌else◌, nat_le}
 use Rattle.std.proofs.lemmas.Bool.Decides.{nat_tests}
 use Rattle.base_model.specs.Keyed.{Text, Keyed, same, at, text_lt}
 use Rattle.race_model.specs.Stores.{Cell, Rows, Table, Index, IndexSeen, Store, Select, Write, Item, Action, Request, Reply, Acted, write, write_all, items_of, found, found_one, new_over, put_over, delete_over, written, dropped, expected, create_over, block_over, clone_over, copy_of, open_over, read_over, pit_at, close_over, get_over, search_over, bulk_over, bulk_in, seen, act, act_all, acted_answer, remove_over, add_over, drop_over, meant, serve}
@@ -7,6 +7,8 @@ use Rattle.race_model.specs.Stores.Acted.{Now, Stuck}
 use Rattle.race_model.specs.Generations.{Generation, Generations, of_alias, get_in, search_in, bulk_reply, bulk_in_one, told_by}
 use Rattle.race_model.specs.Sorted.{AllAbove, IsSorted}
 use Rattle.race_tables.proofs.Keys.{same_refl}
+use Rattle.document_model.specs.Documents.{Doc}
+use Rattle.query_model.specs.Queries.{Query, Holds, in_order, chosen, limited, select}
 use Rattle.call_model.specs.Replies.{rises_from, rises, at_most, is_of, are_of, fits_item, fits_items, fits_reply}
 
 -- at most as many rows as each query takes
@@ -242,3 +244,16 @@ module _ {D Q : Type 0} (limit_of : Q → Option ℕ) (sel : Select D Q) (limits
   served_fits st (Request.Search name query) a b = search_fits name query (at (meant st name) st.indices)
   served_fits st (Request.Bulk name writes) a b = bulk_fits name (meant st name) writes st (at (meant st name) st.indices)
   served_fits st (Request.Aliases actions) a b = acted_fits actions st (act_all (Now st) actions) (all_may actions (Now st) tt)
+
+take_few : {D : Type 0} (n : ℕ) (rows : Rows D) → length (take n rows) ≤ n
+take_few zero rows = omega arith
+take_few (suc n) [] = omega arith
+take_few (suc n) (r ∷ rows) = let k : length (take n rows) ≤ n = take_few n rows in omega arith
+
+few_rows : {A : Type 0} (limit : Option ℕ) (rows : Rows (Doc A)) → at_most limit (limited limit rows) ≡ true
+few_rows None rows = refl
+few_rows (Some n) rows = let k : length (take n rows) ≤ n = take_few n rows in grind (arith, nat_tests)
+
+-- a query's rows are at most as many as it takes
+pub query_limits : {A F : Type 0} (holds : Holds A F) → Limits (λ (q : Query F). q.limit) (select holds)
+query_limits holds q rows = few_rows q.limit (drop q.skip (in_order q.sort q.descending (chosen holds q rows)))
