@@ -1,3 +1,7 @@
 pub mod Growing
 pub mod Lasting
 pub mod Planned
+pub mod Entries
+pub mod Standing
+pub mod Deciding
+pub mod Legality

@@ -6,3 +6,4 @@ pub mod Plans
 pub mod Scripts
 pub mod Replies
 pub mod Upgrades
+pub mod History
