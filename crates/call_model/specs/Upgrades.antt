@@ -2,7 +2,10 @@
 use Rattle.std.specs.Prelude.{ℕ, Bool, true, false, not, ◌&&◌, List, [], ◌∷◌, ◌++◌, Option, Some, None}
 use Rattle.base_model.specs.Keyed.{Text, Keyed, same}
 use Rattle.race_model.specs.Machines.{Settings}
+use Rattle.race_model.specs.Stores.{Table}
 use Rattle.race_model.specs.Worlds.{Race}
+use Rattle.race_model.specs.Openings.{Opening, Scenario}
+use Rattle.race_model.specs.Openings.Opening.{NoGeneration, OneGeneration}
 use Rattle.version_token.specs.declared.Ver.{Ver}
 use Rattle.document_model.specs.Documents.{ver_lt, below, Doc, lists}
 use Rattle.document_model.specs.Registries.{Known, Registry, alias_type, known, latest}
@@ -31,6 +34,8 @@ pub record Named : Type 0 where
   pub temp : Ver → Text
   -- the version in an index's name
   pub version_in : Text → Option Ver
+  -- a version as a text
+  pub text : Ver → Text
 
 abbrev pub type_names : {O : Type 0} → Keyed (Known O) → List Text
 type_names [] = []
@@ -99,9 +104,51 @@ settings_of w names set = record {
   attempts = set.attempts;
 }
 
--- the race of these instances, each with its set, and of clients that make object calls
-abbrev pub race_of : {A O F : Type 0} → Words A O F → Named → (set_of : ℕ → TargetSet O) → Race (Doc A) (Query F) (Script A O)
-race_of w names set_of = record { select = select w.holds; settings = λ i. settings_of w names (set_of i); clients = clients w }
+-- a race of instances with these settings, and of clients that make object calls
+abbrev pub call_race : {A O F : Type 0} → Words A O F → (settings : ℕ → Settings (Doc A) (Query F)) → Race (Doc A) (Query F) (Script A O)
+call_race w settings = record { select = select w.holds; settings = settings; clients = clients w }
+
+-- how a store opens: empty, or with the documents of one version
+pub data Start (A O : Type 0) : Type 0 where
+  Empty : Start A O
+  Holding : (set : TargetSet O) → (table : Table (Doc A)) → Start A O
+
+-- a whole rollout: the sets, one for each registry, those of the opening and of the clients among them; the set of each instance; how the store opens; how many instances there are; and the clients' scripts
+pub record Rollout (A O F : Type 0) : Type 0 where
+  pub words : Words A O F
+  pub names : Named
+  pub sets : List (TargetSet O)
+  pub set_of : (instance : ℕ) → TargetSet O
+  pub start : Start A O
+  pub instances : ℕ
+  pub scripts : List (Script A O)
+
+abbrev pub all_settings : {A O F : Type 0} → Words A O F → Named → List (TargetSet O) → List (Settings (Doc A) (Query F))
+all_settings w names [] = []
+all_settings w names (set ∷ sets) = settings_of w names set ∷ all_settings w names sets
+
+abbrev pub opening_of : {A O F : Type 0} → Words A O F → Named → Start A O → Opening (Doc A) (Query F)
+opening_of w names Empty = NoGeneration
+opening_of w names (Holding set table) = OneGeneration (settings_of w names set) table
+
+-- the rollout as a race
+abbrev pub scenario_of : {A O F : Type 0} → Rollout A O F → Scenario (Doc A) (Query F) (Script A O)
+scenario_of r = record {
+  race = call_race r.words (λ i. settings_of r.words r.names (r.set_of i));
+  current = r.names.current;
+  sets = all_settings r.words r.names r.sets;
+  opening = opening_of r.words r.names r.start;
+  instances = r.instances;
+  scripts = r.scripts;
+}
+
+abbrev pub text_of : (Ver → Text) → Option Ver → Option Text
+text_of text None = None
+text_of text (Some v) = Some (text v)
+
+-- the version in an index's name, as a text
+abbrev pub named_version : Named → Text → Option Text
+named_version names index = text_of names.text (names.version_in index)
 
 -- no type's name stands twice, nor that of alias documents
 unfoldable pub names_apart : {O : Type 0} → Keyed (Known O) → Bool

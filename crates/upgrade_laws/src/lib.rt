@@ -1,0 +1,2 @@
+//! The laws of a rollout of real documents, queries, migrations and calls.
+#![tactic(auto)]
