@@ -57,7 +57,7 @@ run_with w sets scripts opening place here rest past past2 gs gs2 (inr s) r =
 
 module _ {A O F : Type 0} (w : Words A O F) (settings : ℕ → Settings (Doc A) (Query F)) (sets : List (Settings (Doc A) (Query F))) (scripts : List (Script A O)) (opening : Generations (Doc A)) (version_in : Text → Option Text) (current : Text)
     (in_sets : (i : ℕ) → Has (settings i) sets) (versions : (i : ℕ) → (text : Text) × (version_in (settings i).target ≡ Some text)) (plans : Plans {O = O} w settings opening) where
-  abbrev race : Race (Doc A) (Query F) (Script A O)
+  abbrev pub race : Race (Doc A) (Query F) (Script A O)
   race = record { select = select w.holds; settings = settings; clients = clients w }
 
   -- what one entry leaves
@@ -191,11 +191,11 @@ module _ {A O F : Type 0} (w : Words A O F) (settings : ℕ → Settings (Doc A)
   callers_follow t e (Client k) st = refl
 
   -- what is left of a journal is legal
-  abbrev LegalFrom : List (Caller (Script A O)) → List (Entry (Doc A) (Query F)) → FoundSoFar → Past (Doc A) → Generations (Doc A) → List (Entry (Doc A) (Query F)) → Type 0
+  abbrev pub LegalFrom : List (Caller (Script A O)) → List (Entry (Doc A) (Query F)) → FoundSoFar → Past (Doc A) → Generations (Doc A) → List (Entry (Doc A) (Query F)) → Type 0
   LegalFrom callers before f past gs journal =
       ClientsConform w callers journal × (facts : List (HistoryFact A)) × HistoryIs w version_in current scripts before f journal facts × RunIs w sets scripts opening past gs facts
 
-  legal_run : (journal before : List (Entry (Doc A) (Query F))) (f : FoundSoFar) (past : Past (Doc A)) (gs last : Generations (Doc A)) (t : Trace (Doc A) (Query F) (Script A O)) → IsRun race current version_in f gs journal last → Conforms race t journal
+  pub legal_run : (journal before : List (Entry (Doc A) (Query F))) (f : FoundSoFar) (past : Past (Doc A)) (gs last : Generations (Doc A)) (t : Trace (Doc A) (Query F) (Script A O)) → IsRun race current version_in f gs journal last → Conforms race t journal
       → Level opening f.place past gs → Reaches settings opening gs → f.place ≡ suc (length before) → AllStand w settings opening scripts before past gs f.place t.callers → LegalFrom t.callers before f past gs journal
   unfolding IsRun Conforms MayCome followed HistoryIs RunIs ClientsConform
   legal_run [] before f past gs last t run c level reached counted stands = (tt, [], refl, tt)

@@ -71,7 +71,7 @@ unfolding greatest
 greatest_not s u [] e = e
 greatest_not s u (x ∷ steps) e = greatest_not s (greater (Some u) x.0) steps (greater_not s u x.0 e)
 
-ver_self : (v : Ver) → ver_lt v v ≡ false
+pub ver_self : (v : Ver) → ver_lt v v ≡ false
 unfolding ver_lt
 ver_self v = let a : nat_lt v.major v.major ≡ false = grind (arith, nat_tests) in let b : nat_lt v.minor v.minor ≡ false = grind (arith, nat_tests) in let c : nat_lt v.patch v.patch ≡ false = grind (arith, nat_tests) in rw (a, b, c) refl
 

@@ -199,7 +199,7 @@ module _ {A O F : Type 0} (w : Words A O F) (reg : Registry O) where
       by (Answers a) e m = absurd (cc)
       by (Asks second) e m = let is : second ≡ ask = cc in subst OnAlias is m.1
 
-  script_fresh : (calls : List (Call A)) (heard : Option (Reply (Doc A))) (ask : Request (Doc A) (Query F)) → FreshHeard heard → asks_over w reg calls heard ≡ Some ask → FreshAsk ask
+  pub script_fresh : (calls : List (Call A)) (heard : Option (Reply (Doc A))) (ask : Request (Doc A) (Query F)) → FreshHeard heard → asks_over w reg calls heard ≡ Some ask → FreshAsk ask
   script_fresh [] heard ask h e = absurd (cc)
   script_fresh (call ∷ calls) None ask h e = let is : first w reg call ≡ ask = cc in subst FreshAsk is (first_mine (work_of w reg call)).fresh
   script_fresh (call ∷ calls) (Some reply) ask h e = by (next w reg call reply) e (second_mine (work_of w reg call) reply)
@@ -209,7 +209,7 @@ module _ {A O F : Type 0} (w : Words A O F) (reg : Registry O) where
       by (Asks second) e m = let is : second ≡ ask = cc in subst FreshAsk is (m.2 h)
 
   -- what a client keeps
-  script_keeps : (calls : List (Call A)) (heard : Option (Reply (Doc A))) (number : ℕ) (ask : Request (Doc A) (Query F)) (reply : Reply (Doc A)) → asks_over w reg calls heard ≡ Some ask → (IsOf (w.version_alias reg.version) ask → FreshReply Fresh reply)
+  pub script_keeps : (calls : List (Call A)) (heard : Option (Reply (Doc A))) (number : ℕ) (ask : Request (Doc A) (Query F)) (reply : Reply (Doc A)) → asks_over w reg calls heard ≡ Some ask → (IsOf (w.version_alias reg.version) ask → FreshReply Fresh reply)
       → FreshHeard (told_over w (record { registry = reg; calls = calls; heard = heard; number = number }) calls heard reply).heard
   script_keeps [] heard number ask reply e f = absurd (cc)
   script_keeps (call ∷ calls) (Some r) number ask reply e f = tt
