@@ -1,4 +1,9 @@
 pub mod Showing
 pub mod Calm
 pub mod Claiming
+pub mod Starting
+pub mod Ways
+pub mod Unhindered
+pub mod Going
+pub mod Ending
 pub mod Laws
