@@ -1,41 +1,34 @@
 -- A start that nothing stands against ends as done within its bound.
-use Rattle.std.proofs.Common.{◌≡◌, ◌≢◌, ℕ, ◌+◌, ◌*◌, ◌≤◌, ◌⊎◌, List, [], ◌∷◌, Bool, true, false, Option, Some, None, refl, sym, ◌∙◌, ap, subst, if◌then◌else◌}
+use Rattle.std.proofs.Common.{◌≡◌, ℕ, ◌+◌, ◌*◌, ◌≤◌, ◌⊎◌, List, [], ◌∷◌, false, Option, Some, None, refl, sym, ◌∙◌, ap, subst}
 use mathlib.Core.Logic.◌⊎◌.{inl, inr}
 use Rattle.base_model.specs.Keyed.{Text, at}
-use Rattle.race_model.specs.Stores.{Rows, Table, Index, Store, Request, serve, seen}
+use Rattle.race_model.specs.Stores.{Rows, Table, Store, Request, serve, seen}
 use Rattle.race_model.specs.Stores.Reply.{Seen}
-use Rattle.race_model.specs.Machines.{Settings, End, State, request, is_on, unless_left, unless_legacy, by_index, by_aliases, from_state}
-use Rattle.race_model.specs.Machines.Cause.{Leftover}
+use Rattle.race_model.specs.Machines.{Settings, End, State, request, from_state}
 use Rattle.race_model.specs.Machines.End.{Fatal, GaveUp}
-use Rattle.race_model.specs.Machines.Finish.{Stands}
-use Rattle.race_model.specs.Machines.State.{Init, CreateNewTarget, CheckUnknown, OutdatedOpen, Ended}
+use Rattle.race_model.specs.Machines.State.{Init, Ended}
 use Rattle.race_model.specs.Worlds.{Race, Entry, nth}
 use Rattle.race_model.specs.Journals.{Past, Trace, state_of, heard_of, MayCome, Conforms, followed, all_followed}
 use Rattle.race_model.specs.Generations.{Generations, move}
 use Rattle.race_model.specs.History.{FoundSoFar, facts_of, found_after, facts_from}
 use Rattle.race_model.specs.Runs.{last_generation}
 use Rattle.race_model.specs.Premises.{NamesApart, RaceLaws, Paged}
-use Rattle.race_tables.proofs.Keys.{same_refl}
-use Rattle.race_tables.proofs.Lists.{none_some, some_same}
-use Rattle.race_facts.proofs.Facts.{Installed, Current, StoreOk, Later, PhaseOk}
-use Rattle.race_facts.proofs.Facts.Current.{Nowhere, On}
+use Rattle.race_facts.proofs.Facts.{StoreOk, Later, PhaseOk}
 use Rattle.race_facts.proofs.Racing.{every_phase, TraceFacts, PastFacts, place_at, trace_step}
 use Rattle.race_history.proofs.Histories.{Shows, FoundOk, last_index, entry_leads, on_last, store_after}
 use Rattle.race_bound.proofs.Owning.{Owner}
 use Rattle.race_bound.proofs.Costing.{Cost}
 use Rattle.race_bound.proofs.Bounding.{Owned}
-use Rattle.race_claims.specs.Shown.{OwnSource}
 use Rattle.race_claims.specs.Unhindered.{IsOwn, AtOwn, LooksAtNames, FindsUnknown}
 use Rattle.race_claims.proofs.Ways.{Way}
 use Rattle.race_claims.proofs.Ways.Way.{Fresh, Standing, Below}
 use Rattle.race_claims.proofs.Unhindered.{Good, Named, Clear, WayOk, Bound}
-use Rattle.race_model.specs.Machines.{unless_left}
 use Rattle.race_model.specs.History.{found_after_all}
-use Rattle.race_tables.proofs.Keys.{same_is, same_false}
-use Rattle.race_tables.proofs.Requests.{shown_of, at_seen, at_flags}
+use Rattle.race_tables.proofs.Keys.{same_is}
 use Rattle.race_bound.proofs.Costing.{cost_init}
 use Rattle.race_claims.specs.Unhindered.{IsUnhindered, IsWithin, IsWithinPages, GoesWell}
-use Rattle.race_claims.proofs.Unhindered.{running_bound, bound_more, installed_there}
+use Rattle.race_claims.proofs.Unhindered.{running_bound, bound_more}
+use Rattle.race_claims.proofs.Beginning.{fresh_first, standing_first, below_first, not_same}
 use Rattle.race_claims.proofs.Going.{OnlyFor, for_front, for_back, Stand, looks_first, own_request, first_step, along}
 
 module _ {D Q C : Type 0} (race : Race D Q C) (cur : Text) (In : Settings D Q → Type 0) (Fresh_docs : Settings D Q → Text → D → Type 0) (Empty : Type 0) (Sound : C → Type 0) (laws : RaceLaws race cur In Fresh_docs Sound)
@@ -86,46 +79,6 @@ module _ {D Q C : Type 0} (race : Race D Q C) (cur : Text) (In : Settings D Q �
   found_run gs f t (e ∷ j) s k a c =
       let l = entry_leads race cur In Fresh_docs Empty Sound laws version_in gs f t e.actor e s k a c.0.0 c.0.1 in
       found_run (move gs l.m) (found_after cur f e.request e.reply) (followed race t e) j (subst (Shows cur In (move gs l.m)) (sym (store_after race cur In Fresh_docs Empty Sound laws version_in t e.actor e.how e.tag e.request e.reply (serve race.select t.store e.request).0)) l.shows) l.found (trace_step race cur In Fresh_docs Empty Sound laws t e a c.0) c.1
-
-  -- what the first reply tells
-  init_is : (st : Store D) → Ok st → from_state v (Seen (seen st.indices) st.aliases) ≡ by_aliases v (at cur st.aliases) (at v.version st.aliases) (at v.temp (seen st.indices)) (at v.target (seen st.indices))
-  init_is st a =
-      subst (λ c. unless_legacy v (at c (seen st.indices)) (by_aliases v (at c st.aliases) (at v.version st.aliases) (at v.temp (seen st.indices)) (at v.target (seen st.indices))) ≡ by_aliases v (at cur st.aliases) (at v.version st.aliases) (at v.temp (seen st.indices)) (at v.target (seen st.indices))) (sym (names.current v is_in))
-      (subst (λ o. unless_legacy v o (by_aliases v (at cur st.aliases) (at v.version st.aliases) (at v.temp (seen st.indices)) (at v.target (seen st.indices))) ≡ by_aliases v (at cur st.aliases) (at v.version st.aliases) (at v.temp (seen st.indices)) (at v.target (seen st.indices))) (sym (at_flags cur st.indices a.no_cur_index)) refl)
-
-  fresh_first : (st : Store D) → Ok st → at cur st.aliases ≡ None → from_state v (Seen (seen st.indices) st.aliases) ≡ CreateNewTarget
-  fresh_first st a e = init_is st a ∙ ap (λ o. by_aliases v o (at v.version st.aliases) (at v.temp (seen st.indices)) (at v.target (seen st.indices))) e
-
-  standing_first : (st : Store D) → Ok st → at cur st.aliases ≡ Some v.target → from_state v (Seen (seen st.indices) st.aliases) ≡ OutdatedOpen (Stands v.target)
-  standing_first st a e =
-      let x : Installed v st.aliases = installed_there race cur In Fresh_docs Empty Sound laws version_in knows pages paged i tag find st a e in
-      let on : is_on v.target (at v.version st.aliases) ≡ true = rw x (same_refl v.target) in
-      init_is st a ∙ ap (λ o. by_aliases v o (at v.version st.aliases) (at v.temp (seen st.indices)) (at v.target (seen st.indices))) e ∙ ap (λ b. by_index v v.target b (at v.temp (seen st.indices)) (at v.target (seen st.indices))) on
-
-  passes : (st : Store D) (s n : Text) → (n ≡ v.temp) ⊎ (n ≡ v.target) → (o : Option (Index D)) → at n st.indices ≡ o → OwnSource v st s → (next : State D) → unless_left n (shown_of o) s next ≡ next
-  passes st s n kind None e own next = refl
-  passes st s n kind (Some ix) e own next = ap (λ o. if is_on s o then next else Ended (Fatal (Leftover n o s))) (own n ix kind e) ∙ rw (same_refl s) refl
-
-  below_first : (st : Store D) (s : Text) → Ok st → at cur st.aliases ≡ Some s → s ≢ v.target → v.is_later s ≡ false → v.is_same s ≡ false → OwnSource v st s → from_state v (Seen (seen st.indices) st.aliases) ≡ CheckUnknown s
-  below_first st s a e off later other own =
-      let off_it : is_on s (at v.version st.aliases) ≡ false = elim (a.aliases.versions v is_in) [ inl not ↦ rw not refl | inr x ↦ rw (x, same_false s v.target off) refl ] in
-      let rest : by_index v s false (at v.temp (seen st.indices)) (at v.target (seen st.indices)) ≡ CheckUnknown s = rw (later, other, at_seen v.temp st.indices, at_seen v.target st.indices)
-      (passes st s v.temp (inl refl) (at v.temp st.indices) refl own (unless_left v.target (shown_of (at v.target st.indices)) s (CheckUnknown s)) ∙ passes st s v.target (inr refl) (at v.target st.indices) refl own (CheckUnknown s)) in
-      init_is st a ∙ ap (λ o. by_aliases v o (at v.version st.aliases) (at v.temp (seen st.indices)) (at v.target (seen st.indices))) e ∙ ap (λ b. by_index v s b (at v.temp (seen st.indices)) (at v.target (seen st.indices))) off_it ∙ rest
-
-  -- an index below has not the version's own name
-  not_same : (st : Store D) (s : Text) → Ok st → at cur st.aliases ≡ Some s → s ≢ v.target → v.is_same s ≡ false
-  not_same st s a e off = by (v.is_same s) refl
-    where
-      by : (b : Bool) → v.is_same s ≡ b → v.is_same s ≡ false
-      by false q = q
-      by true q = absurd (here a.aliases.current)
-        where
-          here : Current cur In Fresh_docs Empty st.aliases → ⊥
-          here (Nowhere f x nowhere) = none_some s (at cur st.aliases) f e
-          here (On u j f x) =
-              let is : u.target ≡ s = some_same u.target s (at cur st.aliases) f e in
-              off (sym is ∙ sym (ap (λ (z : Settings D Q). z.target) (laws.order.is_own v u is_in j (subst (λ n. v.is_same n ≡ true) (sym is) q))))
 
   module _ (gs : Generations D) (f : FoundSoFar) (o : Owner) (t : Trace D Q C) (first : Entry D Q) (after : List (Entry D Q)) (start : Past D Q) (shows : Shows cur In gs t.store) (found : FoundOk In f gs) (facts : TraceOk t) (owned : Holds o t) (own : IsOwn i tag first)
       (there : nth t.pasts i ≡ Some start) (init : state_of tag start.runs ≡ Init) (c : Conforms race t (first ∷ after)) where
@@ -187,7 +140,7 @@ module _ {D Q C : Type 0} (race : Race D Q C) (cur : Text) (In : Settings D Q �
     standing : at cur t.store.aliases ≡ Some v.target → (past : Past D Q) → nth later.pasts i ≡ Some past → (Within : ℕ → Type 0) → ((k : ℕ) → k ≤ 14 → Within k)
         → ((state_of tag past.runs ≡ Ended (End.Done v.target)) × Within (heard_of tag past.runs)) ⊎ ((ask : Request D Q) × (request v (state_of tag past.runs) ≡ Some ask) × Within (heard_of tag past.runs + 1))
     standing e past f Within within =
-        let r = runs_from Standing tt tt tt (at_own_all t (first ∷ after)) (subst (GoodAt Standing t.store 1) (sym (standing_first t.store facts.store e)) tt) in
+        let r = runs_from Standing tt tt tt (at_own_all t (first ∷ after)) (subst (GoodAt Standing t.store 1) (sym (standing_first race cur In Fresh_docs Empty Sound laws v is_in t.store facts.store e)) tt) in
         ends Standing r.0 r.1 r.2 r.3 past f Within within
 
     pub goes_well : IsUnhindered race i tag v (facts_from cur version_in f (first ∷ after)) t (first ∷ after) (at cur t.store.aliases) → (past : Past D Q) → nth later.pasts i ≡ Some past → GoesWell pages v later.store (at cur t.store.aliases) (heard_of tag past.runs) (state_of tag past.runs)
@@ -196,12 +149,12 @@ module _ {D Q C : Type 0} (race : Race D Q C) (cur : Text) (In : Settings D Q �
       where
         by : (o : Option Text) → at cur t.store.aliases ≡ o → IsUnhindered race i tag v (facts_from cur version_in f (first ∷ after)) t (first ∷ after) o → GoesWell pages v later.store o (heard_of tag past.runs) (state_of tag past.runs)
         by None e only =
-            let r = runs_from Fresh tt (inl e) only (at_own_fresh t (first ∷ after)) (subst (GoodAt Fresh t.store 1) (sym (fresh_first t.store facts.store e)) tt) in
+            let r = runs_from Fresh tt (inl e) only (at_own_fresh t (first ∷ after)) (subst (GoodAt Fresh t.store 1) (sym (fresh_first race cur In Fresh_docs Empty Sound laws v is_in t.store facts.store e)) tt) in
             ends Fresh r.0 r.1 r.2 r.3 past there_later (IsWithin pages v later.store None) (λ k le. le)
         by (Some s) e (inl is) = standing (e ∙ ap (λ z. Some z) is) past there_later (IsWithin pages v later.store (Some s)) (λ k le. inl (is, le))
         by (Some s) e (inr a) = elim (same_is s v.target) [
           | inl y ↦ standing (e ∙ ap (λ z. Some z) y.1) past there_later (IsWithin pages v later.store (Some s)) (λ k le. inl (y.1, le))
-          | inr x ↦ (let other : v.is_same s ≡ false = not_same t.store s facts.store e x.1 in
-              let r = runs_from (Below s) (a.0, other) (inl e) a.1 a.2 (subst (GoodAt (Below s) t.store 1) (sym (below_first t.store s facts.store e x.1 a.0 other ((a.2.0 own).own_source first_looks))) refl) in
+          | inr x ↦ (let other : v.is_same s ≡ false = not_same race cur In Fresh_docs Empty Sound laws v is_in t.store s facts.store e x.1 in
+              let r = runs_from (Below s) (a.0, other) (inl e) a.1 a.2 (subst (GoodAt (Below s) t.store 1) (sym (below_first race cur In Fresh_docs Empty Sound laws v is_in t.store s facts.store e x.1 a.0 other ((a.2.0 own).own_source first_looks))) refl) in
               ends (Below s) r.0 r.1 r.2 r.3 past there_later (IsWithin pages v later.store (Some s)) (λ k b. inr (within_pages s k b)))
         ]

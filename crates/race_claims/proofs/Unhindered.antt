@@ -13,8 +13,7 @@ use Rattle.race_model.specs.Worlds.{Race}
 use Rattle.race_model.specs.Migrated.{IsClean}
 use Rattle.race_model.specs.Premises.{NamesApart, RaceLaws, Paged}
 use Rattle.race_tables.proofs.Lists.{none_some, some_same}
-use Rattle.race_facts.proofs.Facts.{Installed, SourceOf, Current, StoreOk, Later, PhaseOk}
-use Rattle.race_facts.proofs.Facts.Current.{Nowhere, On}
+use Rattle.race_facts.proofs.Facts.{Installed, SourceOf, StoreOk, Later, PhaseOk}
 use Rattle.race_facts.proofs.Switching.{switch_of, install_of, Installing, installing, on_it, switch_now}
 use Rattle.race_facts.proofs.Switching.Installing.{First, Repeated, Refuses}
 use Rattle.race_bound.proofs.Costing.{Of, Cost, of_later, of_more}
@@ -22,6 +21,7 @@ use Rattle.race_claims.specs.Shown.{OwnSource, IsCalm}
 use Rattle.race_claims.specs.Unhindered.{LooksAtNames, IsClear, FindsUnknown}
 use Rattle.race_claims.proofs.Showing.{cause_shown}
 use Rattle.race_claims.proofs.Calm.{calm_ends_well}
+use Rattle.race_claims.proofs.Beginning.{installed_there}
 use Rattle.race_claims.proofs.Ways.{Way, IsFresh, IsMoving, OnSource, OnFinish, IsMark, Next, nexts}
 use Rattle.race_claims.proofs.Ways.Way.{Fresh, Standing, Below}
 
@@ -160,17 +160,6 @@ module _ {D Q C : Type 0} (race : Race D Q C) (cur : Text) (In : Settings D Q �
   on_target Standing o e = tt
   on_target (Below s) o e = inr e
 
-  -- the version of the current alias's index is installed
-  pub installed_there : (st : Store D) → Ok st → at cur st.aliases ≡ Some v.target → Installed v st.aliases
-  installed_there st a e = by a.aliases.current
-    where
-      by : Current cur In Fresh_docs Empty st.aliases → Installed v st.aliases
-      by (Nowhere f x nowhere) = none_some v.target (at cur st.aliases) f e
-      by (On u j f x) = elim (names.apart u v j is_in) [
-        | inl s ↦ subst (λ z. Installed z st.aliases) s x
-        | inr o ↦ absurd (o.1 (some_same u.target v.target (at cur st.aliases) f e))
-      ]
-
   abbrev pub WayOk : Way → Type 0
   WayOk Fresh = Unit {0}
   WayOk Standing = Unit {0}
@@ -184,13 +173,13 @@ module _ {D Q C : Type 0} (race : Race D Q C) (cur : Text) (In : Settings D Q �
       by : Installing race cur In Fresh_docs Empty Sound laws st v → from_mark v (acted_answer st (act_all (Now st) (install_of v cur))).1 ≡ MarkReadyConflict → Installed v st.aliases
       by (First none nowhere is) f = absurd (let z : Ended (End.Done v.target) ≡ MarkReadyConflict = subst (λ x. from_mark v (acted_answer st x).1 ≡ MarkReadyConflict) is f in cc)
       by (Repeated x there is) f = x
-      by (Refuses n there is) f = elim named [ inl none ↦ none_some n (at cur st.aliases) none there | inr on ↦ installed_there st a on ]
+      by (Refuses n there is) f = elim named [ inl none ↦ none_some n (at cur st.aliases) none there | inr on ↦ installed_there race cur In Fresh_docs Empty Sound laws v is_in st a on ]
   mark_installed (Below s) st (Some n) a c g named e = subst (λ x. from_mark v (acted_answer st (act_all (Now st) (switch_of v x n))).1 ≡ MarkReadyConflict → Installed v st.aliases) (sym (names.current v is_in)) by e
     where
       by : from_mark v (acted_answer st (act_all (Now st) (switch_of v cur n))).1 ≡ MarkReadyConflict → Installed v st.aliases
       by f = elim (on_it (at cur st.aliases) n) [
         | inl there ↦ absurd (let z : Ended (End.Done v.target) ≡ MarkReadyConflict = subst (λ x. from_mark v (acted_answer st x).1 ≡ MarkReadyConflict) (switch_now race cur In Fresh_docs Empty Sound laws st v n a is_in c there) f in cc)
-        | inr off ↦ elim named [ inl on ↦ absurd (off (on ∙ ap (λ z. Some z) (sym g))) | inr on ↦ installed_there st a on ]
+        | inr off ↦ elim named [ inl on ↦ absurd (off (on ∙ ap (λ z. Some z) (sym g))) | inr on ↦ installed_there race cur In Fresh_docs Empty Sound laws v is_in st a on ]
       ]
   mark_installed Standing st None a c g named e = absurd g
   mark_installed (Below s) st None a c g named e = absurd g

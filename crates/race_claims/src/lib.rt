@@ -1,19 +1,21 @@
 //! What the store shows where a start of an instance ends, and that an unhindered start ends as done.
 #![tactic(auto)]
 
-ghost use Rattle.std.specs.Prelude.{◌≡◌, ℕ, Bool, List, [], ◌∷◌, ◌++◌, Option, Some};
+ghost use Rattle.std.specs.Prelude.{◌≡◌, ◌≢◌, ℕ, Bool, List, [], ◌∷◌, ◌++◌, Option, Some};
 ghost use Rattle.base_model.specs.Keyed.{Text, at};
 ghost use Rattle.race_model.specs.Stores.{Rows};
-ghost use Rattle.race_model.specs.Machines.{Settings, Cause, moved};
+ghost use Rattle.race_model.specs.Machines.{Settings, Cause, Machine, moved};
 ghost use Rattle.race_model.specs.Machines.State.{Init, Ended};
 ghost use Rattle.race_model.specs.Machines.End.{Fatal};
-ghost use Rattle.race_model.specs.Worlds.{Entry, nth};
+ghost use Rattle.race_model.specs.Worlds.{Entry, Event, Node, nth};
 ghost use Rattle.race_model.specs.Worlds.Actor.{Instance};
 ghost use Rattle.race_model.specs.Worlds.How.{Heard};
 ghost use Rattle.race_model.specs.Journals.{Has, Past, state_of, heard_of};
-ghost use Rattle.race_model.specs.Openings.{Scenario, IsJournal, trace_after, facts_since};
+ghost use Rattle.race_model.specs.Openings.{Scenario, IsJournal, world_after, trace_after, facts_since};
+ghost use Rattle.race_model.specs.Openings.Opening.{NoGeneration};
 ghost use Rattle.race_model.specs.Premises.{IsFair, Paged};
 ghost use Rattle.race_claims.specs.Shown.{IsShown};
+ghost use Rattle.race_claims.specs.OneVersion.{IsOneVersion, IsByDocuments};
 ghost use Rattle.race_claims.specs.Unhindered.{IsOwn, FindsUnknown, IsUnhindered, GoesWell};
 
 /// Where a start ends as fatal at an entry, the store shows the cause at that moment; the causes
@@ -43,4 +45,22 @@ pub fn unhindered_starts_end_as_done<D, Q, C>()
         IsUnhindered scenario.race i tag (scenario.race.settings i) (facts_since scenario version_in before (first ∷ after)) (trace_after scenario before) (first ∷ after) (at scenario.current (trace_after scenario before).store.aliases) →
         nth (trace_after scenario (before ++ first ∷ after)).pasts i ≡ Some past →
         GoesWell pages (scenario.race.settings i) (trace_after scenario (before ++ first ∷ after)).store (at scenario.current (trace_after scenario before).store.aliases) (heard_of tag past.runs) (state_of tag past.runs) }
+{}
+
+/// Where every instance is of one version, above the opening's, a start fails by documents alone: it
+/// ends with one of the causes UnknownObjects, CorruptObjects, NewerObjects and Collision, and in a
+/// store that opened empty it never fails. So NewerIndex, OtherVersion and Leftover never come.
+pub fn one_version_fails_by_documents<D, Q, C>()
+    ensures { (scenario : Scenario D Q C) (is_fresh : Settings D Q → Text → D → Bool) (is_sound : C → Bool) (v : Settings D Q) (journal : List (Entry D Q)) →
+        IsFair scenario is_fresh is_sound → IsOneVersion scenario v → IsJournal scenario journal →
+        (i tag : ℕ) (past : Past D Q) (cause : Cause) → nth (trace_after scenario journal).pasts i ≡ Some past → state_of tag past.runs ≡ Ended (Fatal cause) →
+        IsByDocuments cause × (scenario.opening ≢ NoGeneration) }
+{}
+
+/// The same of every world.
+pub fn worlds_of_one_version_fail_by_documents<D, Q, C>()
+    ensures { (scenario : Scenario D Q C) (is_fresh : Settings D Q → Text → D → Bool) (is_sound : C → Bool) (v : Settings D Q) (events : List Event) →
+        IsFair scenario is_fresh is_sound → IsOneVersion scenario v →
+        (i : ℕ) (node : Node D Q) (m : Machine D) (cause : Cause) → nth (world_after scenario events).nodes i ≡ Some node → node.machine ≡ Some m → m.state ≡ Ended (Fatal cause) →
+        IsByDocuments cause × (scenario.opening ≢ NoGeneration) }
 {}
