@@ -14,9 +14,9 @@ document_members =
     codes "type" ∷ codes "references" ∷ codes "namespace" ∷ codes "namespaces" ∷ codes "migrationVersion" ∷ codes "coreMigrationVersion" ∷ codes "typeMigrationVersion" ∷ codes "updated_at" ∷ codes "originId" ∷ []
 
 -- one of them
-abbrev pub is_document_member : Text → Bool
+unfoldable pub is_document_member : Text → Bool
 is_document_member name = list_any (λ member. bytes_eq name member) document_members
 
 -- 1 to 128 bytes, each one that a type name may have, and no member of a document beside its attributes
-abbrev pub is_type_name : Text → Bool
+unfoldable pub is_type_name : Text → Bool
 is_type_name name = nat_le 1 (length name) && nat_le (length name) 128 && list_all is_name_byte name && not (is_document_member name)

@@ -4,5 +4,5 @@
 mod names;
 mod reference;
 
-pub use names::is_type_name;
+pub use names::{is_document_member, is_type_name};
 pub use reference::Ref;

@@ -1,13 +1,14 @@
 ghost use Rattle.std.specs.Prelude.{◌≡◌, ◌&&◌, nat_le, length};
 ghost use Rattle.std.specs.List.{list_all};
-ghost use Rattle.document_model.specs.Names.{is_name_byte, is_document_member, is_type_name as is_name_of_type};
+ghost use Rattle.document_model.specs.Names.{is_name_byte, is_type_name as is_name_of_type, is_document_member as is_member_of_document};
 
 /// Whether the text is a type name: 1 to 128 bytes of A-Z, a-z, 0-9, `_`, `-` and `.`, and none of
 /// the names that the members of a stored document beside its attributes have. Takes no memory.
+#[tactic(auto, unfolding(crate::specs::Names::is_type_name))]
 pub fn is_type_name(text: &str) -> bool
     ensures { result ≡ is_name_of_type text.now }
 {
-    has_length(text) && has_name_bytes(text) && !is_member(text)
+    has_length(text) && has_name_bytes(text) && !is_document_member(text)
 }
 
 fn has_length(text: &str) -> bool
@@ -28,8 +29,10 @@ fn may_stand_in_name(byte: u8) -> bool
     matches!(byte, b'A'..=b'Z' | b'a'..=b'z' | b'0'..=b'9' | b'_' | b'-' | b'.')
 }
 
-fn is_member(text: &str) -> bool
-    ensures { result ≡ is_document_member text.now }
+/// Whether a stored document may have a member of this name beside its attributes. Takes no memory.
+#[tactic(auto, unfolding(crate::specs::Names::is_document_member))]
+pub fn is_document_member(text: &str) -> bool
+    ensures { result ≡ is_member_of_document text.now }
 {
     matches!(
         text,

@@ -9,4 +9,4 @@ mod space_id;
 pub use error::SpaceError;
 pub use kind::Kind;
 pub use space::Space;
-pub use space_id::SpaceId;
+pub use space_id::{SpaceId, is_space_id};

@@ -2,7 +2,7 @@ ghost use Rattle.std.specs.Prelude.{◌≡◌, ◌==◌, ◌↔◌, true, false,
 ghost use Rattle.std.specs.List.{list_all};
 ghost use Rattle.std.specs.Cmp.{partial_equiv_from_equiv};
 ghost use Rattle.std.specs.Cmp.Lexicographic.{pointwise, nat_list_eq_equiv};
-ghost use Rattle.space_scope.specs.Spaces.{is_space_byte, is_space_text, is_space_id};
+ghost use Rattle.space_scope.specs.Spaces.{is_space_byte, is_space_text, is_space_id as is_id};
 
 use crate::error::SpaceError;
 use plain_data::Text;
@@ -32,10 +32,10 @@ impl SpaceId {
     /// The space id that the text is. `BadSpace` exactly where the text is no space id or is
     /// `default`; `Memory` where the text can't be copied.
     pub fn new(alloc: Global, text: &str) -> Result<SpaceId, SpaceError>
-        ensures ok { IfOk result (λ id. (id ≡ text.now) × (is_space_id text.now ≡ true)) }
-        ensures refused { IsErrOf result SpaceError.BadSpace ↔ (is_space_id text.now ≡ false) }
+        ensures ok { IfOk result (λ id. (id ≡ text.now) × (is_id text.now ≡ true)) }
+        ensures refused { IsErrOf result SpaceError.BadSpace ↔ (is_id text.now ≡ false) }
     {
-        if !is_id(text) {
+        if !is_space_id(text) {
             return Err(SpaceError::BadSpace);
         }
         let text = Text::from_str(alloc, text)?;
@@ -45,14 +45,15 @@ impl SpaceId {
     /// The id as it is written. Takes no memory.
     pub fn as_str(&self) -> &str
         ensures text { result.now ≡ self.now }
-        ensures id { is_space_id self.now ≡ true }
+        ensures id { is_id self.now ≡ true }
     {
         self.text.as_str()
     }
 }
 
-fn is_id(text: &str) -> bool
-    ensures { result ≡ is_space_id text.now }
+/// Whether the text is the id of a space other than the default one. Takes no memory.
+pub fn is_space_id(text: &str) -> bool
+    ensures { result ≡ is_id text.now }
 {
     has_form(text) && text != "default"
 }
