@@ -298,7 +298,7 @@ module _ {D Q C : Type 0} (race : Race D Q C) (cur : Text) (In : Settings D Q �
           let n : i ≢ j = grind (arith, nat_tests) in
           other_owned o (owner_after o t.store i how tag) t.store i j past other ask (λ p lt. owner_same o t.store i how tag p lt) n (made_asked o t.store i how past tag ask own m) later (a j other (sym (nth_other t.pasts i j next n) ∙ f))
 
-  entry_owned : (o : Owner) (t : Trace D Q C) (actor : Actor) (how : How) (tag : ℕ) (ask : Request D Q) → TraceFacts race cur In Fresh Empty Sound t → Owned o t → MayMake race t actor how tag ask
+  pub entry_owned : (o : Owner) (t : Trace D Q C) (actor : Actor) (how : How) (tag : ℕ) (ask : Request D Q) → TraceFacts race cur In Fresh Empty Sound t → Owned o t → MayMake race t actor how tag ask
       → (o' : Owner) × Owned o' (follow_over race t actor how tag ask (serve race.select t.store ask).1 (serve race.select t.store ask).0)
   entry_owned o t (Client k) how tag ask b a m = by (nth t.callers k) refl m
     where
@@ -315,7 +315,7 @@ module _ {D Q C : Type 0} (race : Race D Q C) (cur : Text) (In : Settings D Q �
       by None e k = absurd (no_instance race cur In Fresh Empty Sound laws (s i) how tag ask k)
       by (Some past) e k = (owner_after o t.store i how tag, instance_owned o t i past how tag ask b a e k)
 
-  owned_run : (o : Owner) (t : Trace D Q C) (j : List (Entry D Q)) → TraceFacts race cur In Fresh Empty Sound t → Owned o t → Conforms race t j → (o' : Owner) × Owned o' (all_followed race t j)
+  pub owned_run : (o : Owner) (t : Trace D Q C) (j : List (Entry D Q)) → TraceFacts race cur In Fresh Empty Sound t → Owned o t → Conforms race t j → (o' : Owner) × Owned o' (all_followed race t j)
   unfolding Conforms all_followed MayCome followed
   owned_run o t [] b a c = (o, a)
   owned_run o t (e ∷ j) b a c =
@@ -324,7 +324,7 @@ module _ {D Q C : Type 0} (race : Race D Q C) (cur : Text) (In : Settings D Q �
       (subst (λ reply. Owned r.0 (follow_over race t e.actor e.how e.tag e.request reply (serve race.select t.store e.request).0)) (sym c.0.1) r.1) c.1
 
   -- nobody has started
-  none_owned : (instances : ℕ) (st : Store D) (scripts : List C) → Owned (λ p. None) (open_trace st instances scripts)
+  pub none_owned : (instances : ℕ) (st : Store D) (scripts : List C) → Owned (λ p. None) (open_trace st instances scripts)
   unfolding heard_of state_of nth Every
   none_owned instances st scripts i past e = all instances i e
     where

@@ -83,7 +83,7 @@ module _ {D Q C : Type 0} (race : Race D Q C) (cur : Text) (In : Settings D Q �
 
   -- it lasts
   module _ (st st' : Store D) (later : Later cur In Fresh Empty st st') where
-    of_later : (n : Text) (c k : ℕ) → Of st n c k → Of st' n c k
+    pub of_later : (n : Text) (c k : ℕ) → Of st n c k → Of st' n c k
     of_later n c k o = record {
       table = o.table;
       ground = ground_later cur In Fresh Empty st st' later v n o.ground;
@@ -133,7 +133,7 @@ module _ {D Q C : Type 0} (race : Race D Q C) (cur : Text) (In : Settings D Q �
     cost_later k (Ended end) c = within_later 14 k c
 
   -- one more reply
-  of_more : (st : Store D) (n : Text) (c d k : ℕ) → Of st n c k → k + 1 + c ≤ d + k → Of st n d (k + 1)
+  pub of_more : (st : Store D) (n : Text) (c d k : ℕ) → Of st n c k → k + 1 + c ≤ d + k → Of st n d (k + 1)
   of_more st n c d k o le = let few = o.few in record { table = o.table; ground = o.ground; blocked = o.blocked; few = omega arith }
 
   -- the moves

@@ -1,4 +1,12 @@
 pub mod Showing
 pub mod Calm
 pub mod Claiming
+pub mod Starting
+pub mod Beginning
+pub mod Ways
+pub mod Unhindered
+pub mod Going
+pub mod Ending
+pub mod OneVersion
+pub mod OneClaim
 pub mod Laws

@@ -1,5 +1,5 @@
 -- What holds of a store of several target sets, of each machine and of each request, and what lasts.
-use Rattle.std.proofs.Common.{◌≡◌, ◌≢◌, ℕ, ◌<◌, ◌≤◌, ◌⊎◌, List, [], ◌++◌, true, false, Option, Some, None, sym, ◌∙◌, subst, arith}
+use Rattle.std.proofs.Common.{ap, ◌≡◌, ◌≢◌, ℕ, ◌<◌, ◌≤◌, ◌⊎◌, List, [], ◌++◌, true, false, Option, Some, None, sym, ◌∙◌, subst, arith}
 use mathlib.Core.Logic.◌⊎◌.{inl, inr}
 use Rattle.base_model.specs.Keyed.{Text, Keyed, at}
 use Rattle.race_model.specs.Stores.{Rows, Table, Index, Store, Request, renumbered, empty_table, pit_at}
@@ -149,6 +149,8 @@ module _ {D Q : Type 0} (cur : Text) (In : Settings D Q → Type 0) (Fresh : Set
   pub record Later (st st' : Store D) : Type 0 where
     pub installed : (v : Settings D Q) → In v → Installed v st.aliases → Installed v st'.aliases
     pub named : (c : Text) → at cur st.aliases ≡ Some c → (d : Text) × (at cur st'.aliases ≡ Some d)
+    -- the current alias never goes back
+    pub off : (v : Settings D Q) → In v → Installed v st.aliases → at cur st.aliases ≢ Some v.target → at cur st'.aliases ≢ Some v.target
     pub target : (v : Settings D Q) → In v → (ix : Index D) → at v.target st.indices ≡ Some ix → Grown ix st'.indices v.target
     pub temp : (v : Settings D Q) → In v → (ix : Index D) → at v.temp st.indices ≡ Some ix → Installed v st'.aliases ⊎ TempGrown ix st'.indices v.temp
     pub opened : st.opened ≤ st'.opened
@@ -228,6 +230,10 @@ module _ {D Q : Type 0} (cur : Text) (In : Settings D Q → Type 0) (Fresh : Set
   MarkOk v st None = Empty × Is st.indices v.target
   MarkOk v st (Some n) = Ready v st n
 
+  -- the current alias has left the machine's source, or there was none
+  abbrev pub Passed : Settings D Q → Store D → Type 0
+  Passed v st = Empty ⊎ ((n : Text) × Ground In v st.aliases n × (at cur st.aliases ≢ Some n))
+
   -- what holds where a machine of the set v is in this state
   abbrev pub PhaseOk : Settings D Q → Store D → State D → Type 0
   PhaseOk v st Init = Unit {0}
@@ -246,7 +252,7 @@ module _ {D Q : Type 0} (cur : Text) (In : Settings D Q → Type 0) (Fresh : Set
   PhaseOk v st (OutdatedBulk finish p last writes) = ⊥
   PhaseOk v st (OutdatedClose finish p) = FinishOk v st finish
   PhaseOk v st (MarkReady from) = MarkOk v st from
-  PhaseOk v st MarkReadyConflict = (c : Text) × (at cur st.aliases ≡ Some c)
+  PhaseOk v st MarkReadyConflict = (c : Text) × (at cur st.aliases ≡ Some c) × Passed v st
   PhaseOk v st (Ended end) = EndOk v st end
 
   -- what lasts keeps them
@@ -336,6 +342,10 @@ module _ {D Q : Type 0} (cur : Text) (In : Settings D Q → Type 0) (Fresh : Set
     end_later v (Fatal (Cause.NameTaken n)) i c = c
     end_later v (GaveUp state faults) i c = c
 
+    passed_later : (v : Settings D Q) → Passed v st → Passed v st'
+    passed_later v (inl e) = inl e
+    passed_later v (inr p) = inr (p.0, ground_later v p.0 p.1, λ e. later.off p.1.set p.1.is_in p.1.installed (λ f. p.2 (f ∙ ap (λ z. Some z) (sym p.1.name))) (e ∙ ap (λ z. Some z) p.1.name))
+
     pub phase_later : (v : Settings D Q) (state : State D) → In v → PhaseOk v st state → PhaseOk v st' state
     phase_later v Init i c = c
     phase_later v CreateNewTarget i c = c
@@ -354,7 +364,7 @@ module _ {D Q : Type 0} (cur : Text) (In : Settings D Q → Type 0) (Fresh : Set
     phase_later v (OutdatedClose finish p) i c = finish_later v finish i c
     phase_later v (MarkReady None) i c = (c.0, is_later v i c.1)
     phase_later v (MarkReady (Some n)) i c = ready_later v n i c
-    phase_later v MarkReadyConflict i c = later.named c.0 c.1
+    phase_later v MarkReadyConflict i c = let k = later.named c.0 c.1 in (k.0, k.1, passed_later v c.2)
     phase_later v (Ended end) i c = end_later v end i c
 
     pub temp_ok_later : (v : Settings D Q) (ix : Index D) → TempOk v st ix → TempOk v st' ix

@@ -383,16 +383,16 @@ module _ {D Q C : Type 0} (race : Race D Q C) (cur : Text) (In : Settings D Q �
   mark_switch : (st : Store D) (n : Text) → Ok st → Ready cur In Fresh Empty v st n → At (acted_answer st (act_all (Now st) (switch_of v cur n))).0 (from_mark v (acted_answer st (act_all (Now st) (switch_of v cur n))).1)
   mark_switch st n a r = elim (on_it (at cur st.aliases) n) [
     | inl e ↦ rw (switch_now race cur In Fresh Empty Sound laws st v n a i r e) (refl, at_put_same v.version v.target _)
-    | inr x ↦ rw (switch_stuck race cur In Fresh Empty Sound laws st v n (at cur st.aliases) refl x) (named st r.ground.set a r.ground.is_in r.ground.installed)
+    | inr x ↦ rw (switch_stuck race cur In Fresh Empty Sound laws st v n (at cur st.aliases) refl x) (let k = named st r.ground.set a r.ground.is_in r.ground.installed in (k.0, k.1, inr (n, r.ground, x)))
   ]
 
-  mark_install : (st : Store D) → Ok st → Is st.indices v.target → At (acted_answer st (act_all (Now st) (install_of v cur))).0 (from_mark v (acted_answer st (act_all (Now st) (install_of v cur))).1)
-  mark_install st a t = by (installing race cur In Fresh Empty Sound laws st v a i t)
+  mark_install : (st : Store D) → Ok st → Empty → Is st.indices v.target → At (acted_answer st (act_all (Now st) (install_of v cur))).0 (from_mark v (acted_answer st (act_all (Now st) (install_of v cur))).1)
+  mark_install st a emptied t = by (installing race cur In Fresh Empty Sound laws st v a i t)
     where
       by : Installing race cur In Fresh Empty Sound laws st v → At (acted_answer st (act_all (Now st) (install_of v cur))).0 (from_mark v (acted_answer st (act_all (Now st) (install_of v cur))).1)
       by (First e nowhere is) = rw is (refl, at_put_same v.version v.target _)
       by (Repeated x e is) = rw is (refl, x)
-      by (Refuses c e is) = rw is (c, e)
+      by (Refuses c e is) = rw is (c, e, inl emptied)
 
   conflict_moves : (st : Store D) (c : Text) → Ok st → at cur st.aliases ≡ Some c → At st (from_conflict v (Seen (seen st.indices) st.aliases))
   conflict_moves st c a e = subst (λ x. At st (settled (at x st.aliases) (is_on_some (at x st.aliases) (at v.version st.aliases)))) (sym (names.current v i)) (by a.aliases.current)
@@ -439,7 +439,7 @@ module _ {D Q C : Type 0} (race : Race D Q C) (cur : Text) (In : Settings D Q �
   moves_ok st (OutdatedRead finish p after) a c = outdated_read_moves st finish p after (pit_at p st.pits) c.0 c.1 refl
   moves_ok st (OutdatedBulk finish p last writes) a c = absurd c
   moves_ok st (OutdatedClose finish p) a c = close_moves (close_over (pit_at p st.pits) st p).0 (after_outdated finish) (close_over (pit_at p st.pits) st p).1 (closed st p a (after_outdated finish) (finished st finish c))
-  moves_ok st (MarkReady None) a c = subst (λ x. At (acted_answer st (act_all (Now st) (install_of v x))).0 (from_mark v (acted_answer st (act_all (Now st) (install_of v x))).1)) (sym (names.current v i)) (mark_install st a c.1)
+  moves_ok st (MarkReady None) a c = subst (λ x. At (acted_answer st (act_all (Now st) (install_of v x))).0 (from_mark v (acted_answer st (act_all (Now st) (install_of v x))).1)) (sym (names.current v i)) (mark_install st a c.0 c.1)
   moves_ok st (MarkReady (Some n)) a c = subst (λ x. At (acted_answer st (act_all (Now st) (switch_of v x n))).0 (from_mark v (acted_answer st (act_all (Now st) (switch_of v x n))).1)) (sym (names.current v i)) (mark_switch st n a c)
   moves_ok st MarkReadyConflict a c = conflict_moves st c.0 a c.1
   moves_ok st (Ended end) a c = tt

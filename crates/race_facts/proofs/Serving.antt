@@ -77,6 +77,7 @@ module _ {D Q C : Type 0} (race : Race D Q C) (cur : Text) (In : Settings D Q �
     later = record {
       installed = λ v i x. x;
       named = λ c e. (c, e);
+      off = λ w j x n. n;
       target = λ v i ix e. record { index = ix; there = e; from = refl; kept = λ b. (b, refl) };
       temp = λ v i ix e. inr (record { index = ix; there = e; from = refl; shut = λ b. b; more = λ q h. h });
       opened = omega arith;
@@ -92,6 +93,7 @@ module _ {D Q C : Type 0} (race : Race D Q C) (cur : Text) (In : Settings D Q �
       let later : Lasts st st' = record {
         installed = λ v i x. x;
         named = λ c e. (c, e);
+        off = λ w j x n. n;
         target = λ v i ix e. record { index = ix; there = e; from = refl; kept = λ b. (b, refl) };
         temp = λ v i ix e. inr (record { index = ix; there = e; from = refl; shut = λ b. b; more = λ q h. h });
         opened = le;
@@ -147,6 +149,7 @@ module _ {D Q C : Type 0} (race : Race D Q C) (cur : Text) (In : Settings D Q �
       later = record {
         installed = λ w j x. x;
         named = λ c e. (c, e);
+        off = λ w j x n. n;
         target = λ w j old e. record { index = old; there = target w j ∙ e; from = refl; kept = λ b. (b, refl) };
         temp = λ w j old e. elim (names.apart w v j i) [
           | inl s ↦ subst (λ z. Installed z st.aliases ⊎ TempGrown old st'.indices z.temp) (sym s) (grown old (subst (λ z. at z.temp st.indices ≡ Some old) s e))
@@ -217,6 +220,7 @@ module _ {D Q C : Type 0} (race : Race D Q C) (cur : Text) (In : Settings D Q �
       later = record {
         installed = λ w j x. x;
         named = λ c e. (c, e);
+        off = λ w j x n. n;
         target = λ w j old e. elim (names.apart w v j i) [
           | inl s ↦ subst (λ z. Grown old st'.indices z.target) (sym s) (grown old (subst (λ z. at z.target st.indices ≡ Some old) s e))
           | inr o ↦ record { index = old; there = other w o.1 ∙ e; from = refl; kept = λ b. (b, refl) }

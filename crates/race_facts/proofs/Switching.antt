@@ -188,6 +188,7 @@ module _ {D Q C : Type 0} (race : Race D Q C) (cur : Text) (In : Settings D Q �
       later = record {
         installed = installed_on st v i was kept;
         named = λ c f. (v.target, on_now st v i was kept);
+        off = λ w j x m f. elim (names.apart w v j i) [ inl s ↦ not_both race cur In Fresh Empty Sound laws st v (not_installed st v n a i r.ground e) (subst (λ z. Installed z st.aliases) s x) | inr o ↦ absurd (o.1 (sym (some_same v.target w.target (at cur st'.aliases) (on_now st v i was kept) f))) ];
         target = λ w j old f. record { index = old; there = target w j ∙ f; from = refl; kept = λ b. (b, refl) };
         temp = λ w j old f. elim (names.apart w v j i) [
           | inl s ↦ inl (subst (λ z. Installed z st'.aliases) (sym s) (is_now st v i was kept))
@@ -256,6 +257,7 @@ module _ {D Q C : Type 0} (race : Race D Q C) (cur : Text) (In : Settings D Q �
       later = record {
         installed = installed_on st v i st.aliases kept;
         named = λ c f. (v.target, on_now st v i st.aliases kept);
+        off = λ w j x n e. not_both race cur In Fresh Empty Sound laws st w (nowhere w j) x;
         target = λ w j old f. record { index = old; there = f; from = refl; kept = λ b. (b, refl) };
         temp = λ w j old f. inr (record { index = old; there = f; from = refl; shut = λ b. b; more = λ q h. h });
         opened = omega arith;

@@ -103,7 +103,7 @@ module _ {D Q C : Type 0} (race : Race D Q C) (cur : Text) (In : Settings D Q �
   quiet_block v gs f n st' s e k = record { m = Stay; may = tt; shows = s; fact = rw e refl; found = record { on = k.on; listed = rw e k.listed } }
 
   -- the current alias and the last generation
-  on_last : (gs : Generations D) (st : Store D) → LastOn cur In gs st → last_index (last_generation gs) ≡ at cur st.aliases
+  pub on_last : (gs : Generations D) (st : Store D) → LastOn cur In gs st → last_index (last_generation gs) ≡ at cur st.aliases
   unfolding last_generation
   on_last gs st (No_last none off) = rw (none, off) refl
   on_last gs st (The_last w j l on) = rw (l.is_last, on) (ap (λ z. Some z) l.of)
@@ -543,7 +543,7 @@ module _ {D Q C : Type 0} (race : Race D Q C) (cur : Text) (In : Settings D Q �
     pub fact : facts_of cur version_in f e.request e.reply ≡ fact_of version_in f.place m
     pub found : FoundOk In (found_after cur f e.request e.reply) (move gs m)
 
-  entry_leads : (gs : Generations D) (f : FoundSoFar) (t : Trace D Q C) (actor : Actor) (e : Entry D Q) → Displays gs t.store → FoundOk In f gs → TraceOk t → MayMake race t actor e.how e.tag e.request → e.reply ≡ (serve race.select t.store e.request).1 → EntryLeads gs f t actor e
+  pub entry_leads : (gs : Generations D) (f : FoundSoFar) (t : Trace D Q C) (actor : Actor) (e : Entry D Q) → Displays gs t.store → FoundOk In f gs → TraceOk t → MayMake race t actor e.how e.tag e.request → e.reply ≡ (serve race.select t.store e.request).1 → EntryLeads gs f t actor e
   entry_leads gs f t (Instance i) e s k a m r = by (nth t.pasts i) refl m
     where
       by : (o : Option (Past D Q)) → nth t.pasts i ≡ o → MayInstance (race.settings i) e.how o e.tag e.request → EntryLeads gs f t (Instance i) e
@@ -568,7 +568,7 @@ module _ {D Q C : Type 0} (race : Race D Q C) (cur : Text) (In : Settings D Q �
           let still = client_found f gs e.request e.reply k of in
           record { m = Move.Ask e.request; may = (refl, r ∙ told.0); shows = told.1; fact = still.0; found = still.1 }
 
-  store_after : (t : Trace D Q C) (actor : Actor) (how : How) (tag : ℕ) (ask : Request D Q) (reply : Reply D) (st : Store D) → (follow_over race t actor how tag ask reply st).store ≡ st
+  pub store_after : (t : Trace D Q C) (actor : Actor) (how : How) (tag : ℕ) (ask : Request D Q) (reply : Reply D) (st : Store D) → (follow_over race t actor how tag ask reply st).store ≡ st
   store_after t (Instance i) how tag ask reply st = refl
   store_after t (Client k) how tag ask reply st = refl
 

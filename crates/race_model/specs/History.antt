@@ -77,10 +77,16 @@ found_after current f (Request.Block index) Done = record { on = f.on; blocked =
 found_after current f (Aliases actions) Done = record { on = named_after_all current f.on actions; blocked = f.blocked; place = f.place + 1 }
 found_after current f _ _ = record { on = f.on; blocked = f.blocked; place = f.place + 1 }
 
--- the facts in order of their places, from 1
+-- what is found after these entries
+unfoldable pub found_after_all : {D Q : Type 0} → (current : Text) → FoundSoFar → List (Entry D Q) → FoundSoFar
+found_after_all current f [] = f
+found_after_all current f (e ∷ es) = found_after_all current (found_after current f e.request e.reply) es
+
+-- the facts in order of their places
 unfoldable pub facts_from : {D Q : Type 0} → (current : Text) → (version_in : Text → Option Text) → FoundSoFar → List (Entry D Q) → List Fact
 facts_from current version_in f [] = []
 facts_from current version_in f (e ∷ es) = facts_of current version_in f e.request e.reply ++ facts_from current version_in (found_after current f e.request e.reply) es
 
+-- the facts of a journal, with places from 1, where the current alias named this index before it
 abbrev pub facts : {D Q : Type 0} → (current : Text) → (version_in : Text → Option Text) → (opening : Option Text) → List (Entry D Q) → List Fact
 facts current version_in opening j = facts_from current version_in (record { on = opening; blocked = []; place = 1 }) j

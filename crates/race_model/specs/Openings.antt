@@ -4,7 +4,7 @@ use Rattle.base_model.specs.Keyed.{Text, put}
 use Rattle.race_model.specs.Stores.{Table, Store}
 use Rattle.race_model.specs.Machines.{Settings}
 use Rattle.race_model.specs.Generations.{Generations, new_generation}
-use Rattle.race_model.specs.History.{Fact, FoundSoFar, facts_from}
+use Rattle.race_model.specs.History.{Fact, FoundSoFar, found_after_all, facts_from}
 use Rattle.race_model.specs.Worlds.{Race, World, Entry, Event, run, open_world}
 use Rattle.race_model.specs.Journals.{Trace, Conforms, all_followed, open_trace}
 
@@ -73,3 +73,7 @@ IsJournal s journal = Conforms s.race (first_trace s) journal
 -- the facts of a journal of the scenario
 abbrev pub facts_of_journal : {D Q C : Type 0} → Scenario D Q C → (version_in : Text → Option Text) → List (Entry D Q) → List Fact
 facts_of_journal s version_in journal = facts_from s.current version_in (found_at_opening s.opening) journal
+
+-- the facts of its later entries, after those before
+abbrev pub facts_since : {D Q C : Type 0} → Scenario D Q C → (version_in : Text → Option Text) → (before after : List (Entry D Q)) → List Fact
+facts_since s version_in before after = facts_from s.current version_in (found_after_all s.current (found_at_opening s.opening) before) after
