@@ -5,3 +5,4 @@ pub mod Entries
 pub mod Standing
 pub mod Deciding
 pub mod Legality
+pub mod Laws

@@ -4,6 +4,7 @@ use Rattle.base_model.specs.Keyed.{Text, same, at}
 use Rattle.race_model.specs.Stores.{Cell, Table, written, dropped}
 use Rattle.version_token.specs.declared.Ver.{Ver}
 use Rattle.document_model.specs.Documents.{below, Doc, everywhere, default_space, or_default, lists, visible, raw_id, id_of}
+use Rattle.space_scope.specs.Spaces.{is_space_text}
 use Rattle.space_scope.specs.declared.kind.Kind.{Kind}
 use Rattle.space_scope.specs.declared.kind.Kind.TheVariants.{Single, Multiple, MultipleIsolated, Agnostic}
 use Rattle.document_model.specs.Registries.{Known, Registry, alias_type, known, latest, too_new}
@@ -19,17 +20,9 @@ use Rattle.call_model.specs.Calls.Answer.{Object, Deleted, Spaces, Refused}
 
 -- refusals by a call's own words
 
--- a byte of a-z, 0-9, `_` and `-`
-abbrev pub space_byte : ℕ → Bool
-space_byte b = (nat_le 97 b && nat_le b 122) || (nat_le 48 b && nat_le b 57) || b == 95 || b == 45
-
-abbrev pub all_space_bytes : Text → Bool
-all_space_bytes [] = true
-all_space_bytes (b ∷ s) = space_byte b && all_space_bytes s
-
--- a space id: 1 to 64 such bytes
+-- a space of a call: 1 to 64 bytes of a-z, 0-9, `_` and `-`
 unfoldable pub is_space : Text → Bool
-is_space s = nat_lt 0 (length s) && nat_le (length s) 64 && all_space_bytes s
+is_space s = is_space_text s
 
 -- each is a space id or `*`
 abbrev pub all_spaces_or_all : List Text → Bool
