@@ -116,7 +116,7 @@ abbrev and_answer : Option (Answer (Keyed Text)) → List (Answer (Keyed Text)) 
 and_answer None rest = rest
 and_answer (Some a) rest = a ∷ rest
 
-abbrev is_client : ℕ → Actor → Bool
+abbrev pub is_client : ℕ → Actor → Bool
 is_client k (Actor.Instance i) = false
 is_client k (Actor.Client j) = j == k
 

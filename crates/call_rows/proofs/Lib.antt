@@ -1,2 +1,3 @@
 pub mod Example
 pub mod Rows
+pub mod Races
