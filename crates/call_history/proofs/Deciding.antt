@@ -1,11 +1,11 @@
 -- What an entry of a client is: its call's deciding entry, or a read.
-use Rattle.std.proofs.Common.{◌≡◌, ◌≢◌, ◌<◌, ◌≤◌, ◌⊎◌, ℕ, zero, suc, ◌+◌, Bool, true, false, Option, Some, None, List, [], ◌∷◌, ◌++◌, drop, length, map, refl, sym, ◌∙◌, ap, subst, arith}
+use Rattle.std.proofs.Common.{◌≡◌, ◌<◌, ◌≤◌, ◌⊎◌, ℕ, suc, ◌+◌, Bool, true, false, Option, Some, None, List, [], ◌∷◌, ◌++◌, length, map, refl, sym, ◌∙◌, ap, subst, arith}
 use mathlib.Core.Logic.◌⊎◌.{inl, inr}
 use Rattle.base_model.specs.Keyed.{Text}
 use Rattle.race_model.specs.Stores.{Request, Reply}
 use Rattle.race_model.specs.Machines.{Settings}
-use Rattle.race_model.specs.Generations.{Generations, Move, told_by, left_by, move}
-use Rattle.race_model.specs.Worlds.{Actor, How, Entry, Caller, nth, asked_of}
+use Rattle.race_model.specs.Generations.{Generations, told_by, left_by}
+use Rattle.race_model.specs.Worlds.{How, Entry, Caller, nth}
 use Rattle.race_model.specs.Worlds.Actor.{Client}
 use Rattle.race_model.specs.Worlds.How.{Heard, Unheard, Late}
 use Rattle.race_model.specs.Journals.{MayClient, caller_after}
@@ -18,14 +18,14 @@ use Rattle.call_model.specs.Calls.{Call, Answer}
 use Rattle.call_model.specs.Plans.{Next}
 use Rattle.call_model.specs.Plans.Next.{Answers, Asks}
 use Rattle.call_model.specs.Steps.{called}
-use Rattle.call_model.specs.Scripts.{Script, clients, first, next, last, asked, answer_of, asks_over, moved_on, told_over, decided_over, with_next, outcome, own, left, replaced_where}
+use Rattle.call_model.specs.Scripts.{Script, clients, first, next, last, asked, answer_of, asks_over, moved_on, with_next, own, replaced_where}
 use Rattle.call_model.specs.History.{HistoryFact, is_entry, entries_of, first_place, Fits, DecidedBy, IsCall, Decides, EntryHas, Past, stood_before, StepIs, place_of}
 use Rattle.call_model.specs.History.HistoryFact.{Changed, Called}
 use Rattle.call_laws.specs.Meanings.{Keeps}
 use Rattle.call_history.specs.Plans.{MayBeMade, Path, Reaches, GoesOn, Plans}
 use Rattle.call_history.specs.Plans as plans_of
 use Rattle.call_history.proofs.Entries.{entries_own, entries_other, first_at_end, first_stays, own_entry, other_tag, drop_next, drop_nth, stood_new, stood_old}
-use Rattle.call_history.proofs.Standing.{one_more, none_yet, After, Idle, Busy, Stand, Onward}
+use Rattle.call_history.proofs.Standing.{none_yet, After, Idle, Busy, Stand}
 
 -- one step of the generations, or none
 abbrev pub Step : {A O F : Type 0} → Words A O F → List (Settings (Doc A) (Query F)) → List (Script A O) → (opening : Generations (Doc A)) → (place : ℕ) → List (HistoryFact A) → Past (Doc A) → Generations (Doc A) → Past (Doc A) → Generations (Doc A) → Type 0
@@ -61,8 +61,7 @@ module _ {A O F : Type 0} (w : Words A O F) (settings : ℕ → Settings (Doc A)
   -- a call has one registry and one place in its script
   same_call : (k tag : ℕ) (reg reg2 : Registry O) (call call2 : Call A) → IsCall scripts k tag reg call → IsCall scripts k tag reg2 call2 → (reg2 ≡ reg) × (call2 ≡ call)
   same_call k tag reg reg2 call call2 a b =
-      let s : b.script ≡ a.script = some_is b.script a.script (sym b.is_script ∙ a.is_script) in
-      (
+      let s : b.script ≡ a.script = some_is b.script a.script (sym b.is_script ∙ a.is_script) in (
         sym b.is_registry ∙ (ap (λ (x : Script A O). x.registry) s ∙ a.is_registry),
         some_is call2 call (sym b.is_call ∙ (ap (λ (x : Script A O). nth x.calls tag) s ∙ a.is_call)),
       )
@@ -216,27 +215,30 @@ module _ {A O F : Type 0} (w : Words A O F) (settings : ℕ → Settings (Doc A)
                 → Stand w settings opening entries past (left_by gs e.request) (f.place + 1) k whole (caller_after (clients w) h (record { script = script; cut = false }) e.reply)
             by Heard q second n =
                 let now : (clients w).told script e.reply ≡ script_of reg (call ∷ rest) (Some e.reply) number = ap (moved_on script rest e.reply) n in
-                inr (refl, inr (subst (λ x. Busy w settings opening entries past (left_by gs e.request) (f.place + 1) k whole x) (sym now) (record {
-                  m = m;
-                  after = record { registry = after.registry; number = after.number; rest = after.rest };
-                  call = call;
-                  rest = rest;
-                  calls = refl;
-                  entry = e;
-                  made = subst (λ x. entries_of k x entries ≡ e ∷ []) t_is own_are;
-                  ask = ask;
-                  fits = fits;
-                  heard = refl;
-                  second = second;
-                  asks = n;
-                  unmade = λ t2 l. entries_other k t2 before e (other_tag k t2 e (λ same. let x : t2 ≡ suc m = sym same ∙ t_is in omega arith)) ∙ unmade t2 (omega arith);
-                  seen = gs;
-                  goes = g;
-                  told = sym now ∙ ap (λ x. (clients w).told script x) reply;
-                  since = subst (Reaches settings gs) (sym g.reads) (none_yet settings gs);
-                  earlier = subst (λ x. first_place k x 1 entries < f.place + 1) t_is (subst (λ x. x < f.place + 1) (sym place_is) (omega arith));
-                  stood = subst (λ x. stood_before (first_place k x 1 entries) opening past ≡ gs) t_is (ap (λ x. stood_before x opening past) place_is ∙ level f.place (omega arith));
-                })))
+                inr (
+                  refl,
+                  inr (subst (λ x. Busy w settings opening entries past (left_by gs e.request) (f.place + 1) k whole x) (sym now) (record {
+                    m = m;
+                    after = record { registry = after.registry; number = after.number; rest = after.rest };
+                    call = call;
+                    rest = rest;
+                    calls = refl;
+                    entry = e;
+                    made = subst (λ x. entries_of k x entries ≡ e ∷ []) t_is own_are;
+                    ask = ask;
+                    fits = fits;
+                    heard = refl;
+                    second = second;
+                    asks = n;
+                    unmade = λ t2 l. entries_other k t2 before e (other_tag k t2 e (λ same. let x : t2 ≡ suc m = sym same ∙ t_is in omega arith)) ∙ unmade t2 (omega arith);
+                    seen = gs;
+                    goes = g;
+                    told = sym now ∙ ap (λ x. (clients w).told script x) reply;
+                    since = subst (Reaches settings gs) (sym g.reads) (none_yet settings gs);
+                    earlier = subst (λ x. first_place k x 1 entries < f.place + 1) t_is (subst (λ x. x < f.place + 1) (sym place_is) (omega arith));
+                    stood = subst (λ x. stood_before (first_place k x 1 entries) opening past ≡ gs) t_is (ap (λ x. stood_before x opening past) place_is ∙ level f.place (omega arith));
+                  })),
+                )
             by Unheard q second n = inl refl
             by Late q second n = absurd q
 

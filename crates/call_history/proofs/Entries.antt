@@ -1,9 +1,9 @@
 -- The entries of one call in a journal, and the places of facts.
-use Rattle.std.proofs.Common.{◌≡◌, ◌≢◌, ◌<◌, ◌≤◌, ℕ, zero, suc, ◌+◌, Bool, true, false, ◌&&◌, Option, Some, None, List, [], ◌∷◌, ◌++◌, drop, length, refl, sym, ◌∙◌, ap, subst, arith, ◌==◌, nat_lt, if◌then◌else◌}
+use Rattle.std.proofs.Common.{◌≡◌, ◌≢◌, ◌<◌, ◌≤◌, ℕ, zero, suc, ◌+◌, Bool, true, false, ◌&&◌, Some, List, [], ◌∷◌, ◌++◌, drop, length, refl, sym, ◌∙◌, ap, arith, ◌==◌, nat_lt, if◌then◌else◌}
 use Rattle.std.proofs.lemmas.Bool.Decides.{nat_tests}
 use Rattle.base_model.specs.Keyed.{Text}
 use Rattle.race_model.specs.Stores.{Request, Reply}
-use Rattle.race_model.specs.Worlds.{Actor, Entry, nth}
+use Rattle.race_model.specs.Worlds.{Entry, nth}
 use Rattle.race_model.specs.Worlds.Actor.{Instance, Client}
 use Rattle.race_model.specs.Generations.{Generations}
 use Rattle.race_model.specs.History.{FoundSoFar, found_after}

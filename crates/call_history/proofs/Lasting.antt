@@ -1,8 +1,8 @@
 -- Alias documents stay in their generations, whatever moves are made.
-use Rattle.std.proofs.Common.{◌≡◌, ℕ, Bool, true, false, Option, Some, None, List, [], ◌∷◌, refl, sym, ◌∙◌, ap, subst, if◌then◌else◌}
+use Rattle.std.proofs.Common.{◌≡◌, ℕ, Bool, true, false, Some, None, List, [], ◌∷◌, refl, sym, ◌∙◌, subst, if◌then◌else◌}
 use mathlib.Core.Logic.◌⊎◌.{inl, inr}
 use Rattle.base_model.specs.Keyed.{Text, same}
-use Rattle.race_model.specs.Stores.{Write, Table, Request, write_all}
+use Rattle.race_model.specs.Stores.{Write, Request, write_all}
 use Rattle.race_model.specs.Machines.{Settings}
 use Rattle.race_model.specs.Generations.{Generation, Generations, of_alias, with_table, written_in, left_by, Move, block_last, install, move}
 use Rattle.race_model.specs.Generations.Move.{Stay, Migrate, Install}

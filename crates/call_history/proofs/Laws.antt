@@ -1,5 +1,5 @@
 -- The laws, as lemmas.
-use Rattle.std.proofs.Common.{◌≡◌, ◌≢◌, ℕ, Bool, List, [], ◌∷◌, true, false, not, Option, Some, None, refl, sym, ap, subst}
+use Rattle.std.proofs.Common.{◌≡◌, ◌≢◌, ℕ, Bool, List, [], ◌∷◌, true, false, not, Option, Some, None, refl}
 use Rattle.base_model.specs.Keyed.{Text, at}
 use Rattle.race_model.specs.Stores.{Cell}
 use Rattle.race_model.specs.Machines.{Settings}
@@ -19,14 +19,13 @@ use Rattle.call_model.specs.Calls.{Answer}
 use Rattle.call_model.specs.Calls.Answer.{Refused}
 use Rattle.call_model.specs.Calls.Call.{Resolving}
 use Rattle.call_model.specs.Acts.{first_of, is_space, is_unknown, bad_id, raw_of}
-use Rattle.call_model.specs.Steps.{call_step, work_step, unless_words, resolve_words, resolve, resolved_over, exact_over, resolved_by, seen_over, counted, alias_of, alias_target, target_raw, work_of, Work}
+use Rattle.call_model.specs.Steps.{call_step, work_step, unless_words, resolve, resolved_over, exact_over, resolved_by, seen_over, counted, alias_of, alias_target, target_raw, work_of, Work}
 use Rattle.call_model.specs.Steps.Work.{Following}
 use Rattle.call_model.specs.Scripts.{Script}
 use Rattle.call_model.specs.Upgrades.{call_race}
 use Rattle.call_model.specs.History.{IsLegal, stood_before}
 use Rattle.call_history.specs.Plans.{Plans}
 use Rattle.call_history.specs.Claims.{AreNumbered, AreFresh, scenario}
-use Rattle.call_history.proofs.Growing.{AllNumbered}
 use Rattle.call_history.proofs.Planned.{plans}
 use Rattle.call_history.proofs.Standing.{none_yet}
 use Rattle.call_history.proofs.Legality.{legal_run, all_begin}

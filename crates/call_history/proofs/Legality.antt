@@ -1,33 +1,32 @@
 -- Every journal that conforms is legal.
-use Rattle.std.proofs.Common.{◌≡◌, ◌≢◌, ◌<◌, ◌≤◌, ◌⊎◌, ℕ, zero, suc, ◌+◌, Bool, true, false, Option, Some, None, List, [], ◌∷◌, ◌++◌, length, map, refl, sym, ◌∙◌, ap, subst, arith, ◌==◌}
+use Rattle.std.proofs.Common.{◌≡◌, ◌≢◌, ℕ, zero, suc, ◌+◌, Bool, true, false, Option, Some, None, List, [], ◌∷◌, ◌++◌, length, map, refl, sym, ◌∙◌, ap, subst, arith, ◌==◌}
 use Rattle.std.proofs.lemmas.Bool.Decides.{nat_tests}
 use Rattle.std.proofs.lemmas.List.{length-append}
 use mathlib.Core.Logic.◌⊎◌.{inl, inr}
 use Rattle.base_model.specs.Keyed.{Text}
-use Rattle.race_model.specs.Stores.{Request, Reply, Store, serve}
+use Rattle.race_model.specs.Stores.{Request, Store, serve}
 use Rattle.race_model.specs.Machines.{Settings}
-use Rattle.race_model.specs.Generations.{Generation, Generations, Move, told_by, left_by, move}
+use Rattle.race_model.specs.Generations.{Generations, Move, told_by, left_by, move}
 use Rattle.race_model.specs.Generations.Move.{Stay, Migrate, Install}
 use Rattle.race_model.specs.Worlds.{Race, Actor, How, Entry, Caller, nth, with_nth, callers_of}
 use Rattle.race_model.specs.Worlds.Actor.{Instance, Client}
 use Rattle.race_model.specs.Worlds.How.{Heard, Unheard, Late}
-use Rattle.race_model.specs.Journals.{Has, Trace, MayClient, MayMake, MayCome, Conforms, caller_after, callers_after, follow_over, followed, open_trace}
+use Rattle.race_model.specs.Journals.{Has, Trace, MayClient, MayMake, MayCome, Conforms, caller_after, callers_after, follow_over, followed}
 use Rattle.race_model.specs.History.{Fact, FoundSoFar, migrated_fact, installed_fact, facts_of, found_after}
 use Rattle.race_model.specs.Runs.{MayMove, CanMigrate, EntryIs, fact_of, IsRun}
-use Rattle.race_model.specs.Openings.{Opening, Scenario, opening_store, opening_generations, found_at_opening, IsJournal}
 use Rattle.race_follow.proofs.Following.{nth_here, nth_other}
 use Rattle.document_model.specs.Documents.{Doc}
 use Rattle.query_model.specs.Queries.{Query, select}
 use Rattle.call_model.specs.Words.{Words}
 use Rattle.call_model.specs.Scripts.{Script, clients}
-use Rattle.call_model.specs.History.{HistoryFact, is_entry, entries_of, Fits, EntryHas, HistoryIs, Past, stood_before, StepIs, place_of, RunIs, EntryConforms, callers_past, ClientsConform, IsLegal}
+use Rattle.call_model.specs.History.{HistoryFact, entries_of, Fits, EntryHas, HistoryIs, Past, RunIs, EntryConforms, callers_past, ClientsConform}
 use Rattle.call_model.specs.History.HistoryFact.{Changed}
-use Rattle.call_laws.specs.Meanings.{AsksOnly, Keeps}
+use Rattle.call_laws.specs.Meanings.{AsksOnly}
 use Rattle.call_laws.proofs.Keeping.{script_asks_only}
 use Rattle.call_laws.proofs.Replying.{IsClients, told_fits, query_limits}
 use Rattle.call_history.specs.Plans.{MayBeMade, Reaches, Plans}
 use Rattle.call_history.proofs.Entries.{no_client, other_client, found_place}
-use Rattle.call_history.proofs.Standing.{may_of, one_more, none_yet, After, Idle, Stand, AllStand, Onward, stand_other}
+use Rattle.call_history.proofs.Standing.{may_of, one_more, Stand, AllStand, Onward, stand_other}
 use Rattle.call_history.proofs.Deciding.{Step, Level, step_stood, step_level, Left, client_left}
 
 -- what clients send
@@ -211,8 +210,7 @@ module _ {A O F : Type 0} (w : Words A O F) (settings : ℕ → Settings (Doc A)
       (one_more settings opening gs run.0 reached turned.may)
       (let q : f.place ≡ suc (length before) = counted in omega arith)
       (subst (λ x. AllStand w settings opening scripts (before ++ e ∷ []) turned.past2 (move gs run.0) next_f.place x) (sym callers)
-      (subst (λ x. AllStand w settings opening scripts (before ++ e ∷ []) turned.past2 (move gs run.0) x (callers_past w t.callers e e.actor)) (sym place) turned.stands)) in
-      (
+      (subst (λ x. AllStand w settings opening scripts (before ++ e ∷ []) turned.past2 (move gs run.0) x (callers_past w t.callers e e.actor)) (sym place) turned.stands)) in (
         (turned.conforms, subst (λ x. ClientsConform w x journal) callers rest.0),
         turned.facts ++ rest.1,
         (turned.facts, rest.1, refl, turned.has, rest.2),
@@ -230,10 +228,16 @@ module _ {A O F : Type 0} (w : Words A O F) (settings : ℕ → Settings (Doc A)
   pub all_begin : ((j : ℕ) (script : Script A O) → nth scripts j ≡ Some script → (script.heard ≡ None) × (script.number ≡ 1)) → AllStand w settings opening scripts [] [] opening 1 (callers_of scripts)
   unfolding entries_of
   all_begin fresh k caller e =
-      let b = begins scripts k caller e in
-      (b.0, b.1, subst (λ x. Stand w settings opening [] [] opening 1 k b.0 x) (sym b.2) (inr (refl, inl (record {
-        m = 0;
-        after = record { registry = refl; number = (fresh k b.0 b.1).1; rest = refl };
-        heard = (fresh k b.0 b.1).0;
-        unmade = λ tag l. refl;
-      }))))
+      let b = begins scripts k caller e in (
+        b.0,
+        b.1,
+        subst (λ x. Stand w settings opening [] [] opening 1 k b.0 x) (sym b.2) (inr (
+          refl,
+          inl (record {
+            m = 0;
+            after = record { registry = refl; number = (fresh k b.0 b.1).1; rest = refl };
+            heard = (fresh k b.0 b.1).0;
+            unmade = λ tag l. refl;
+          }),
+        )),
+      )

@@ -1,10 +1,9 @@
 -- The plans of calls are what the race theorem asks of them.
-use Rattle.std.proofs.Common.{◌≡◌, ◌⊎◌, ℕ, Bool, true, false, Option, Some, None, List, [], ◌∷◌, refl, sym, ap, subst, if◌then◌else◌, IsTrue}
+use Rattle.std.proofs.Common.{◌≡◌, ◌⊎◌, ℕ, Option, Some, None, List, [], ◌∷◌, refl, sym, ap, subst}
 use mathlib.Core.Logic.◌⊎◌.{inl, inr}
-use Rattle.base_model.specs.Keyed.{Text, same}
-use Rattle.race_model.specs.Stores.{Table, Request, Reply}
+use Rattle.race_model.specs.Stores.{Request, Reply}
 use Rattle.race_model.specs.Machines.{Settings}
-use Rattle.race_model.specs.Generations.{Generation, Generations, of_alias, told_by}
+use Rattle.race_model.specs.Generations.{Generations, told_by}
 use Rattle.document_model.specs.Documents.{Doc}
 use Rattle.document_model.specs.Registries.{Registry}
 use Rattle.call_model.specs.Words.{Words}
@@ -14,7 +13,6 @@ use Rattle.call_model.specs.Steps.{work_of, called}
 use Rattle.call_model.specs.Plans.{Next}
 use Rattle.call_model.specs.Plans.Next.{Answers, Asks}
 use Rattle.call_model.specs.Scripts.{Script, first, next, last, asked, asks_over, moved_on}
-use Rattle.call_laws.specs.Meanings.{Numbered}
 use Rattle.call_history.specs.Plans.{Reaches, Decides, GoesOn, Plans}
 use Rattle.call_laws.proofs.Writing.{Done, Grown, Fate}
 use Rattle.call_laws.proofs.Fates.{right_call}

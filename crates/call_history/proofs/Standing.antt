@@ -1,22 +1,19 @@
 -- How a client stands between two entries of a journal, and what an entry of another does to that.
-use Rattle.std.proofs.Common.{◌≡◌, ◌≢◌, ◌<◌, ◌≤◌, ◌⊎◌, ℕ, zero, suc, ◌+◌, Bool, true, false, Option, Some, None, List, [], ◌∷◌, ◌++◌, drop, length, refl, sym, ◌∙◌, ap, subst, arith}
+use Rattle.std.proofs.Common.{◌≡◌, ◌<◌, ◌≤◌, ◌⊎◌, ℕ, suc, ◌+◌, true, false, Some, None, List, [], ◌∷◌, ◌++◌, drop, refl, sym, ◌∙◌, ap, subst, arith}
 use mathlib.Core.Logic.◌⊎◌.{inl, inr}
-use Rattle.base_model.specs.Keyed.{Text}
-use Rattle.race_model.specs.Stores.{Request, Reply}
+use Rattle.race_model.specs.Stores.{Request}
 use Rattle.race_model.specs.Machines.{Settings}
 use Rattle.race_model.specs.Generations.{Generations, Move, told_by, move}
 use Rattle.race_model.specs.Generations.Move.{Stay, Migrate, Install}
-use Rattle.race_model.specs.Worlds.{Actor, Entry, Caller, nth}
+use Rattle.race_model.specs.Worlds.{Entry, Caller, nth}
 use Rattle.race_model.specs.Runs.{MayMove}
 use Rattle.document_model.specs.Documents.{Doc}
-use Rattle.document_model.specs.Registries.{Registry}
 use Rattle.query_model.specs.Queries.{Query, select}
 use Rattle.call_model.specs.Words.{Words}
 use Rattle.call_model.specs.Calls.{Call}
 use Rattle.call_model.specs.Plans.Next.{Asks}
 use Rattle.call_model.specs.Scripts.{Script, clients, first, next}
 use Rattle.call_model.specs.History.{is_entry, entries_of, first_place, Fits, Past, stood_before}
-use Rattle.call_laws.specs.Meanings.{Keeps}
 use Rattle.call_history.specs.Plans.{MayBeMade, Path, Reaches, GoesOn}
 use Rattle.call_history.proofs.Entries.{entries_other, first_stays}
 
@@ -91,33 +88,39 @@ module _ {A O F : Type 0} (w : Words A O F) (settings : ℕ → Settings (Doc A)
   pub stand_other : (before : List (Entry (Doc A) (Query F))) (past past2 : Past (Doc A)) (gs gs2 : Generations (Doc A)) (place k : ℕ) (whole : Script A O) (caller : Caller (Script A O)) (e : Entry (Doc A) (Query F))
       → ((tag : ℕ) → is_entry k tag e ≡ false) → Onward past past2 gs gs2 place → Stand before past gs place k whole caller → Stand (before ++ e ∷ []) past2 gs2 (place + 1) k whole caller
   stand_other before past past2 gs gs2 place k whole caller e n o (inl cut) = inl cut
-  stand_other before past past2 gs gs2 place k whole caller e n o (inr (uncut, inl i)) = inr (uncut, inl (record {
-    m = i.m;
-    after = i.after;
-    heard = i.heard;
-    unmade = λ tag l. entries_other k tag before e (n tag) ∙ i.unmade tag l;
-  }))
+  stand_other before past past2 gs gs2 place k whole caller e n o (inr (uncut, inl i)) = inr (
+    uncut,
+    inl (record {
+      m = i.m;
+      after = i.after;
+      heard = i.heard;
+      unmade = λ tag l. entries_other k tag before e (n tag) ∙ i.unmade tag l;
+    }),
+  )
   stand_other before past past2 gs gs2 place k whole caller e n o (inr (uncut, inr b)) =
       let same : first_place k (suc b.m) 1 (before ++ e ∷ []) ≡ first_place k (suc b.m) 1 before = first_stays k (suc b.m) 1 before (e ∷ []) b.entry [] b.made in
       let early : first_place k (suc b.m) 1 before < place = b.earlier in
-      inr (uncut, inr (record {
-        m = b.m;
-        after = b.after;
-        call = b.call;
-        rest = b.rest;
-        calls = b.calls;
-        entry = b.entry;
-        made = entries_other k (suc b.m) before e (n (suc b.m)) ∙ b.made;
-        ask = b.ask;
-        fits = b.fits;
-        heard = b.heard;
-        second = b.second;
-        asks = b.asks;
-        unmade = λ tag l. entries_other k tag before e (n tag) ∙ b.unmade tag l;
-        seen = b.seen;
-        goes = b.goes;
-        told = b.told;
-        since = o.reach b.seen b.since;
-        earlier = subst (λ x. x < place + 1) (sym same) (omega arith);
-        stood = subst (λ x. stood_before x opening past2 ≡ b.seen) (sym same) (o.stood (first_place k (suc b.m) 1 before) (omega arith) ∙ b.stood);
-      }))
+      inr (
+        uncut,
+        inr (record {
+          m = b.m;
+          after = b.after;
+          call = b.call;
+          rest = b.rest;
+          calls = b.calls;
+          entry = b.entry;
+          made = entries_other k (suc b.m) before e (n (suc b.m)) ∙ b.made;
+          ask = b.ask;
+          fits = b.fits;
+          heard = b.heard;
+          second = b.second;
+          asks = b.asks;
+          unmade = λ tag l. entries_other k tag before e (n tag) ∙ b.unmade tag l;
+          seen = b.seen;
+          goes = b.goes;
+          told = b.told;
+          since = o.reach b.seen b.since;
+          earlier = subst (λ x. x < place + 1) (sym same) (omega arith);
+          stood = subst (λ x. stood_before x opening past2 ≡ b.seen) (sym same) (o.stood (first_place k (suc b.m) 1 before) (omega arith) ∙ b.stood);
+        }),
+      )

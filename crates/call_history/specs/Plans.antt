@@ -1,5 +1,5 @@
 -- What the plans of calls owe on all generations that an opening may become.
-use Rattle.std.specs.Prelude.{◌≡◌, ◌⊎◌, ℕ, List, [], ◌∷◌, Option, Some, None}
+use Rattle.std.specs.Prelude.{◌≡◌, ◌⊎◌, ℕ, List, [], ◌∷◌, Some, None}
 use Rattle.race_model.specs.Stores.{Request}
 use Rattle.race_model.specs.Machines.{Settings}
 use Rattle.race_model.specs.Generations.{Generations, Move, told_by, left_by, move}

@@ -1,5 +1,5 @@
 -- What calls write fits its raw id.
-use Rattle.std.proofs.Common.{◌≡◌, ◌≢◌, ◌⊎◌, ℕ, Bool, true, false, ◌&&◌, ◌||◌, not, Option, Some, None, List, [], ◌∷◌, ◌++◌, length, refl, sym, ◌∙◌, ap, subst, arith, ◌==◌, if◌then◌else◌, is_none, is_some, nat_lt}
+use Rattle.std.proofs.Common.{◌≡◌, ◌≢◌, ◌⊎◌, ℕ, Bool, true, false, ◌&&◌, ◌||◌, not, Option, Some, None, List, [], ◌∷◌, ◌++◌, refl, sym, ◌∙◌, ap, subst, arith, ◌==◌, if◌then◌else◌, is_none, is_some, nat_lt}
 use Rattle.std.proofs.lemmas.Bool.Decides.{nat_tests}
 use mathlib.Core.Logic.◌⊎◌.{inl, inr}
 use Rattle.base_model.specs.Keyed.{Text, same, at}
@@ -9,20 +9,20 @@ use Rattle.race_tables.proofs.Keys.{at_put, at_without, same_is, same_true}
 use Rattle.version_token.specs.declared.Ver.{Ver}
 use Rattle.space_scope.specs.declared.kind.Kind.{Kind}
 use Rattle.space_scope.specs.declared.kind.Kind.TheVariants.{Single, Multiple, MultipleIsolated, Agnostic}
-use Rattle.document_model.specs.Documents.{ver_lt, below, Doc, after, front, joined, lists, listed, raw_id, visible, default_space}
-use Rattle.document_model.specs.Registries.{Known, Registry, alias_type, known, greater, greatest, latest, fits, fits_kind, fits_either, fits_shared, fits_single, is_shared, own_raw, has_id}
+use Rattle.document_model.specs.Documents.{ver_lt, below, Doc, after, joined, lists, listed, raw_id, visible, default_space}
+use Rattle.document_model.specs.Registries.{Known, Registry, known, greater, greatest, latest, fits, fits_kind, fits_either, is_shared, own_raw, has_id}
 use Rattle.query_model.specs.declared.parts.Target.{Target}
 use Rattle.call_model.specs.declared.refuse.Refuse.{Refuse}
 use Rattle.call_model.specs.declared.refuse.Refuse.TheVariants.{UnsupportedType}
 use Rattle.call_model.specs.Words.{Words}
-use Rattle.call_model.specs.Calls.{NewObject, Change, Act, Call}
+use Rattle.call_model.specs.Calls.{NewObject, Act, Call}
 use Rattle.call_model.specs.Calls.Act.{Create, Update, Delete, Share}
 use Rattle.call_model.specs.Calls.Call.{Changing, BulkCreating, Getting, BulkGetting, Resolving, Finding}
-use Rattle.call_model.specs.Acts.{Deed, judge, do_deed, act_step, bad_space, is_space, own_words, raw_of, target_of, kind_of, kind_over, latest_of, new_space, new_spaces, created, overwritten, updated, respaced, is_seen, act_on, on_row, overwriting, spaces_left, taken_away, added, or_no_space, token_is, is_wide, first_of, is_unknown, bad_id, bad_token, is_multiple, stamp_too_new}
+use Rattle.call_model.specs.Acts.{Deed, judge, do_deed, act_step, bad_space, is_space, own_words, raw_of, target_of, kind_of, kind_over, latest_of, new_space, new_spaces, created, overwritten, updated, respaced, is_seen, act_on, on_row, spaces_left, taken_away, added, or_no_space, token_is, is_wide, first_of, is_unknown, bad_id, bad_token, is_multiple, stamp_too_new}
 use Rattle.call_model.specs.Acts.Deed.{Deny, Make, Remake, Drop}
-use Rattle.call_model.specs.Steps.{Turn, Stepper, number_of, same_number, where_same, item_over, item_step, turn_over, taken_after, turns, each_turn, all_denied, all_refused, creates, looks, find_words, resolve_words, Work, unless, unless_words, work_of, Outcome, needs_no_store, rows_of, called_in, called_over, called}
+use Rattle.call_model.specs.Steps.{Turn, number_of, same_number, where_same, item_over, item_step, turn_over, taken_after, turns, each_turn, all_denied, all_refused, creates, looks, find_words, resolve_words, Work, unless, unless_words, work_of, needs_no_store, rows_of, called_in, called_over, called}
 use Rattle.call_model.specs.Steps.Turn.{Denied, Goes}
-use Rattle.call_model.specs.Steps.Work.{Refusing, Writing, Looking, Searching, Following}
+use Rattle.call_model.specs.Steps.Work.{Writing, Looking, Searching, Following}
 use Rattle.call_laws.specs.Meanings.{then_on, AllFit}
 use Rattle.call_laws.proofs.Versions.{lt_trans}
 

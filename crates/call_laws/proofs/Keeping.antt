@@ -1,8 +1,7 @@
 -- Clients of the new version write up-to-date documents, where they were shown such.
-use Rattle.std.proofs.Common.{◌≡◌, ◌⊎◌, ℕ, Bool, true, false, not, ◌&&◌, Option, Some, None, List, [], ◌∷◌, refl, sym, ◌∙◌, subst, arith, if◌then◌else◌, nat_lt}
+use Rattle.std.proofs.Common.{◌≡◌, ℕ, Bool, true, false, not, ◌&&◌, Option, Some, None, List, [], ◌∷◌, refl, subst, arith, if◌then◌else◌, nat_lt}
 use Rattle.std.proofs.lemmas.Bool.Decides.{nat_tests}
-use mathlib.Core.Logic.◌⊎◌.{inl, inr}
-use Rattle.base_model.specs.Keyed.{Text, same}
+use Rattle.base_model.specs.Keyed.{Text}
 use Rattle.race_model.specs.Stores.{Cell, Write, Request, Reply}
 use Rattle.race_model.specs.Stores.Request.{Ping, Get, Search, Bulk}
 use Rattle.race_model.specs.Premises.{FreshWrites, FreshFound, AllFreshFound, FreshReply, IsOf}

@@ -1,13 +1,12 @@
 -- What is refused changes nothing.
-use Rattle.std.proofs.Common.{◌≡◌, ◌⊎◌, Bool, true, false, not, Option, Some, None, List, [], ◌∷◌, refl, sym, ◌∙◌, ap, subst}
+use Rattle.std.proofs.Common.{◌≡◌, Bool, true, false, not, Option, Some, None, List, [], ◌∷◌, refl, sym, ◌∙◌, ap, subst}
 use mathlib.Core.Logic.◌⊎◌.{inl, inr}
 use Rattle.base_model.specs.Keyed.{Text, at}
-use Rattle.race_model.specs.Stores.{Cell, Rows, Table, empty_table}
+use Rattle.race_model.specs.Stores.{Cell, Rows, Table}
 use Rattle.race_model.specs.Generations.{Generation}
 use Rattle.race_tables.proofs.Keys.{same_is}
 use Rattle.document_model.specs.Documents.{Doc, lists}
 use Rattle.document_model.specs.Registries.{Registry}
-use Rattle.query_model.specs.declared.parts.Target.{Target}
 use Rattle.call_model.specs.declared.refuse.Refuse.{Refuse}
 use Rattle.call_model.specs.Words.{Words}
 use Rattle.call_model.specs.Calls.{NewObject, Act, Call, One, Answer}
@@ -16,9 +15,9 @@ use Rattle.call_model.specs.Calls.Call.{Changing, BulkCreating, Getting, BulkGet
 use Rattle.call_model.specs.Calls.Answer.{Each, Refused}
 use Rattle.call_model.specs.Acts.{Deed, judge, do_deed, act_step, success, dropped_one, bad_space, is_space, own_words, raw_of, target_of}
 use Rattle.call_model.specs.Acts.Deed.{Deny, Make, Remake, Drop}
-use Rattle.call_model.specs.Steps.{Turn, Stepper, gone, missed, number_of, same_number, where_same, item_over, item_step, turn_over, taken_after, turns, each_turn, all_denied, each_of, form, one_of, creates, looks, find_words, resolve_words, Work, unless, unless_words, work_of, Outcome, needs_no_store, rows_of, called_in, called_over, called}
-use Rattle.call_model.specs.Steps.Turn.{Denied, Goes}
-use Rattle.call_model.specs.Steps.Work.{Refusing, Writing, Looking, Searching, Following}
+use Rattle.call_model.specs.Steps.{Turn, Stepper, number_of, same_number, where_same, item_over, item_step, turn_over, taken_after, turns, each_turn, all_denied, each_of, form, one_of, creates, looks, find_words, resolve_words, Work, unless, unless_words, work_of, Outcome, needs_no_store, rows_of, called_in, called_over, called}
+use Rattle.call_model.specs.Steps.Turn.{Goes}
+use Rattle.call_model.specs.Steps.Work.{Writing, Looking, Searching, Following}
 use Rattle.call_laws.specs.Meanings.{then_on, RefusedAt, AllRefused}
 use Rattle.call_laws.proofs.Items.{Sees, judge_sees}
 use Rattle.call_laws.proofs.Bulks.{Others}
@@ -234,8 +233,7 @@ module _ {A O F : Type 0} (w : Words A O F) (reg : Registry O) (read : Option (G
         judged : (denied : Bool) → (called_over w reg (Writing false space items) denied read (Some g)).1 ≡ Each ones → Stays (Writing false space items) denied ones
         judged true e = (λ raw h. refl, λ h. refl)
         judged false e =
-            let is : each_of result.1 ≡ ones = cc in
-            (
+            let is : each_of result.1 ≡ ones = cc in (
               λ raw h. row_stays w reg space (rows_of read) g.blocked raw over time os [] g.table (subst (RefusedAt reg space raw os) (sym is) h),
               λ h. table_stays w reg space (rows_of read) g.blocked over time os [] g.table (subst AllRefused (sym is) h),
             )

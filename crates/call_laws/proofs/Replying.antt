@@ -1,5 +1,5 @@
 -- The store's replies fit their requests.
-use Rattle.std.proofs.Common.{◌≡◌, ℕ, zero, suc, ◌≤◌, Bool, true, false, ◌&&◌, not, Option, Some, None, List, [], ◌∷◌, length, take, drop, map, refl, sym, ◌∙◌, ap, subst, arith, ◌==◌, if◌then◌else◌, nat_le}
+use Rattle.std.proofs.Common.{◌≡◌, ℕ, zero, suc, ◌≤◌, Bool, true, false, not, Option, Some, None, List, [], ◌∷◌, length, take, drop, refl, arith, ◌==◌, if◌then◌else◌}
 use Rattle.std.proofs.lemmas.Bool.Decides.{nat_tests}
 use Rattle.base_model.specs.Keyed.{Text, Keyed, same, at, text_lt}
 use Rattle.race_model.specs.Stores.{Cell, Rows, Table, Index, IndexSeen, Store, Select, Write, Item, Action, Request, Reply, Acted, write, write_all, items_of, found, found_one, new_over, put_over, delete_over, written, dropped, expected, create_over, block_over, clone_over, copy_of, open_over, read_over, pit_at, close_over, get_over, search_over, bulk_over, bulk_in, seen, act, act_all, acted_answer, remove_over, add_over, drop_over, meant, serve}

@@ -1,19 +1,17 @@
 -- Where alias documents stay, a resolve is one step.
-use Rattle.std.proofs.Common.{◌≡◌, Bool, true, false, Option, Some, None, List, [], ◌∷◌, refl, sym, subst, if◌then◌else◌}
+use Rattle.std.proofs.Common.{◌≡◌, Bool, true, false, Option, Some, None, refl, if◌then◌else◌}
 use Rattle.base_model.specs.Keyed.{Text, same, at}
-use Rattle.race_model.specs.Stores.{Cell, Write, Request, write_all}
-use Rattle.race_model.specs.Machines.{Settings}
-use Rattle.race_model.specs.Generations.{Generation, Generations, of_alias, with_table, written_in, left_by, Move, block_last, migrate, move}
+use Rattle.race_model.specs.Stores.{Cell}
+use Rattle.race_model.specs.Generations.{Generation}
 use Rattle.document_model.specs.Documents.{Doc}
 use Rattle.document_model.specs.Registries.{Registry, alias_type}
 use Rattle.call_model.specs.Words.{Words}
 use Rattle.query_model.specs.declared.parts.Target.{Target}
 use Rattle.call_model.specs.declared.refuse.Refuse.{Refuse}
 use Rattle.call_model.specs.Calls.Call.{Resolving}
-use Rattle.query_model.specs.Queries.{Query}
 use Rattle.call_model.specs.Steps.{number_of, same_number, alias_of, alias_target, resolve_words, unless_words, work_of, work_step, call_step, needs_no_store, called_over, called}
 use Rattle.call_model.specs.Steps.Work.{Following}
-use Rattle.call_laws.specs.Meanings.{KeepsAliases, Keeps}
+use Rattle.call_laws.specs.Meanings.{KeepsAliases}
 use Rattle.call_laws.proofs.Items.{same_self}
 
 module _ {A O F : Type 0} (w : Words A O F) (reg : Registry O) (space : Text) (q : Target) where

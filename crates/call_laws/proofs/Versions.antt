@@ -1,5 +1,5 @@
 -- Versions are in order.
-use Rattle.std.proofs.Common.{◌≡◌, ◌<◌, ◌⊎◌, ℕ, Bool, true, false, refl, sym, ◌∙◌, ap, subst, arith, nat_lt, if◌then◌else◌}
+use Rattle.std.proofs.Common.{◌≡◌, ◌<◌, ◌⊎◌, ℕ, Bool, true, false, refl, sym, ◌∙◌, ap, arith, nat_lt, if◌then◌else◌}
 use Rattle.std.proofs.lemmas.Bool.Decides.{nat_tests}
 use mathlib.Core.Logic.◌⊎◌.{inl, inr}
 use Rattle.version_token.specs.declared.Ver.{Ver}
@@ -59,10 +59,13 @@ below_trans a b c k l = elim k [
   | inl x ↦ elim l [ inl y ↦ inl (omega arith) | inr q ↦ inl (omega arith) ]
   | inr p ↦ elim l [
     | inl y ↦ inl (omega arith)
-    | inr q ↦ inr (omega arith, elim p.1 [
-      | inl m ↦ elim q.1 [ inl n ↦ inl (omega arith) | inr s ↦ inl (omega arith) ]
-      | inr r ↦ elim q.1 [ inl n ↦ inl (omega arith) | inr s ↦ inr (omega arith, omega arith) ]
-    ])
+    | inr q ↦ inr (
+      omega arith,
+      elim p.1 [
+        | inl m ↦ elim q.1 [ inl n ↦ inl (omega arith) | inr s ↦ inl (omega arith) ]
+        | inr r ↦ elim q.1 [ inl n ↦ inl (omega arith) | inr s ↦ inr (omega arith, omega arith) ]
+      ],
+    )
   ]
 ]
 

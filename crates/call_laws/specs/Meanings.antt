@@ -1,10 +1,8 @@
 -- What the laws of object calls speak of.
-use Rattle.std.specs.Prelude.{◌≡◌, ◌<◌, ℕ, Bool, true, List, [], ◌∷◌, Option, Some, None, IsTrue}
+use Rattle.std.specs.Prelude.{◌≡◌, ◌<◌, true, List, [], ◌∷◌, Option, Some, None, IsTrue}
 use Rattle.base_model.specs.Keyed.{Text, same, at}
-use Rattle.race_model.specs.Stores.{Cell, Rows, Table, Store, Write, Request, Reply, write_all}
+use Rattle.race_model.specs.Stores.{Cell, Rows, Table, Store, Request, Reply, write_all}
 use Rattle.race_model.specs.Stores.Request.{Ping, Get, Search, Bulk}
-use Rattle.race_model.specs.Stores.Write.{Put}
-use Rattle.race_model.specs.Stores.Reply.{Selected, Found}
 use Rattle.race_model.specs.Generations.{Generation, Generations, of_alias}
 use Rattle.race_model.specs.Premises.{FreshWrites, FreshReply}
 use Rattle.document_model.specs.Documents.{Doc}

@@ -1,5 +1,5 @@
 -- One change of one object on one table: what its words, its row and its write show.
-use Rattle.std.specs.Prelude.{ℕ, Bool, true, false, ◌&&◌, ◌||◌, not, List, [], ◌∷◌, ◌++◌, length, Option, Some, None, is_none, if◌then◌else◌, ◌==◌, nat_lt, nat_le}
+use Rattle.std.specs.Prelude.{ℕ, Bool, true, false, ◌&&◌, ◌||◌, not, List, [], ◌∷◌, ◌++◌, length, Option, Some, None, is_none, if◌then◌else◌, ◌==◌, nat_lt}
 use Rattle.base_model.specs.Keyed.{Text, same, at}
 use Rattle.race_model.specs.Stores.{Cell, Table, written, dropped}
 use Rattle.version_token.specs.declared.Ver.{Ver}
@@ -86,6 +86,7 @@ abbrev pub kind_over : {O : Type 0} → Option (Known O) → Kind
 kind_over None = Agnostic
 kind_over (Some t) = t.kind
 
+-- the kind of a type by its name
 abbrev pub kind_of : {O : Type 0} → Registry O → Text → Kind
 kind_of reg name = kind_over (known reg name)
 
@@ -169,10 +170,12 @@ created w reg space o time = record {
   origin = o.origin;
 }
 
+-- the new one where it is given, else the old one
 abbrev pub or_old : {T : Type 0} → Option T → T → T
 or_old None old = old
 or_old (Some new) old = new
 
+-- the new one where it is given, else the old one, if any
 abbrev pub or_else : {T : Type 0} → Option T → Option T → Option T
 or_else None old = old
 or_else (Some new) old = Some new
@@ -219,6 +222,7 @@ respaced spaces time d = record {
   origin = d.origin;
 }
 
+-- the namespaces of a document, none where it has no list
 abbrev pub or_no_space : Option (List Text) → List Text
 or_no_space None = []
 or_no_space (Some spaces) = spaces

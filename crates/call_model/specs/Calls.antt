@@ -84,4 +84,3 @@ pub data Answer (A : Type 0) : Type 0 where
   Spaces : List Text → Answer A
   Resolved : (object : Shown A) → (outcome : MatchKind) → (alias_target : Option Text) → Answer A
   Refused : Refuse → Answer A
-

@@ -1,5 +1,5 @@
 -- The history of a journal with the calls of its clients, and which journals are legal.
-use Rattle.std.specs.Prelude.{◌≡◌, ℕ, ◌+◌, Bool, true, false, ◌&&◌, List, [], ◌∷◌, ◌++◌, map, Option, Some, None, ◌==◌, nat_lt, if◌then◌else◌}
+use Rattle.std.specs.Prelude.{◌≡◌, ℕ, ◌+◌, Bool, true, false, ◌&&◌, List, [], ◌∷◌, ◌++◌, map, Option, Some, ◌==◌, nat_lt, if◌then◌else◌}
 use Rattle.base_model.specs.Keyed.{Text}
 use Rattle.race_model.specs.Machines.{Settings}
 use Rattle.race_model.specs.Generations.{Generation, Generations, block_last, migrate, install}
@@ -14,7 +14,7 @@ use Rattle.document_model.specs.Registries.{Registry}
 use Rattle.query_model.specs.Queries.{Query}
 use Rattle.call_model.specs.Words.{Words}
 use Rattle.call_model.specs.Calls.{Call, Answer}
-use Rattle.call_model.specs.Steps.{Outcome, called}
+use Rattle.call_model.specs.Steps.{called}
 use Rattle.call_model.specs.Plans.Next.{Answers, Asks}
 use Rattle.call_model.specs.Scripts.{Script, clients, first, next, last, own, replaced_where}
 use Rattle.call_model.specs.Replies.{fits_reply}
@@ -24,6 +24,7 @@ pub data HistoryFact (A : Type 0) : Type 0 where
   Changed : Fact → HistoryFact A
   Called : (place read client tag : ℕ) → Answer A → HistoryFact A
 
+-- this client
 abbrev pub is_client : ℕ → Actor → Bool
 is_client k (Instance i) = false
 is_client k (Client j) = k == j
@@ -99,6 +100,7 @@ StepIs {O = O} w sets scripts opening past gs (Called place read k tag a) new =
     × (a ≡ (called w registry call (own w registry (stood_before read opening past)) (own w registry gs)).1)
     × (new ≡ replaced_where (w.version_alias registry.version) (called w registry call (own w registry (stood_before read opening past)) (own w registry gs)).0 gs)
 
+-- the place of a fact
 abbrev pub place_of : {A : Type 0} → HistoryFact A → ℕ
 place_of (Changed (Fact.Block place)) = place
 place_of (Changed (Fact.Migrate place target version)) = place
@@ -116,6 +118,7 @@ abbrev pub EntryConforms : {A O F : Type 0} → Words A O F → List (Caller (Sc
 EntryConforms w callers e (Instance i) = Unit {0}
 EntryConforms w callers e (Client k) = MayClient (clients w) e.how (nth callers k) e.tag e.request × Fits e
 
+-- the clients after an entry
 abbrev pub callers_past : {A O F : Type 0} → Words A O F → List (Caller (Script A O)) → Entry (Doc A) (Query F) → Actor → List (Caller (Script A O))
 callers_past w callers e (Instance i) = callers
 callers_past w callers e (Client k) = callers_after (clients w) callers k (nth callers k) e.how e.reply

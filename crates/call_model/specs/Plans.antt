@@ -30,10 +30,12 @@ pub data Ready (A : Type 0) : Type 0 where
   Settled : Refuse → Ready A
   Sends : (raw : Text) → (act : Act A) → (deed : Deed A) → Ready A
 
+-- an item, by what its row showed
 abbrev pub ready_over : {A : Type 0} → Text → Act A → Deed A → Ready A
 ready_over raw act (Deny r) = Settled r
 ready_over raw act deed = Sends raw act deed
 
+-- the number and document of a row that was found
 abbrev pub cell_of : {D : Type 0} → Option (Text × Cell D) → Option (Cell D)
 cell_of None = None
 cell_of (Some r) = Some r.1
@@ -109,6 +111,7 @@ abbrev pub is_blind : {A : Type 0} → Act A → Bool
 is_blind (Create o false time) = true
 is_blind _ = false
 
+-- no item that is left to judge reads
 abbrev pub all_blind : {A : Type 0} → List (Turn A) → Bool
 all_blind [] = true
 all_blind (Denied r ∷ ts) = all_blind ts
@@ -125,15 +128,18 @@ abbrev pub sent : {A O F : Type 0} → Words A O F → Registry O → Bool → L
 sent w reg alone [] rs = Answers (form alone (answers reg rs []))
 sent w reg alone (x ∷ writes) rs = Asks (Bulk (w.version_alias reg.version) (x ∷ writes))
 
+-- after the read: the writes, each with its row's number
 abbrev pub after_read : {A O F : Type 0} → Words A O F → Registry O → Bool → Text → List (Turn A) → Reply (Doc A) → Next A F
 after_read w reg alone space ts (Found rows) = sent w reg alone (writes_of (readied w reg space ts rows)) (readied w reg space ts rows)
 after_read w reg alone space ts _ = Answers (refused NotReady)
 
+-- what the first reply of a writing call leads to
 abbrev pub writing_then : {A O F : Type 0} → Words A O F → Registry O → Bool → Text → Bool → List Text → List (Turn A) → Reply (Doc A) → Next A F
 writing_then w reg alone space blind [] ts reply = Answers (form alone (answers reg (readied w reg space ts []) []))
 writing_then w reg alone space true (raw ∷ raws) ts reply = Answers (bulk_answer reg alone (readied w reg space ts []) reply)
 writing_then w reg alone space false (raw ∷ raws) ts reply = after_read w reg alone space ts reply
 
+-- the answer from the reply to its writes
 abbrev pub writing_last : {A O F : Type 0} → Words A O F → Registry O → Bool → Text → List (Turn A) → Reply (Doc A) → Reply (Doc A) → Answer A
 writing_last w reg alone space ts (Found rows) reply = bulk_answer reg alone (readied w reg space ts rows) reply
 writing_last w reg alone space ts _ reply = refused NotReady
@@ -153,18 +159,22 @@ looked reg space (Refuses r ∷ ls) rows = Refused r ∷ looked reg space ls row
 looked reg space (At t ∷ ls) [] = looked reg space ls []
 looked reg space (At t ∷ ls) (row ∷ rows) = got reg (raw_of reg space t) (seen_over reg space t (cell_of row)) ∷ looked reg space ls rows
 
+-- the first request of a read: none of the store where no target is left
 abbrev pub look_first : {A O F : Type 0} → Words A O F → Registry O → List Text → Request (Doc A) (Query F)
 look_first w reg [] = Ping
 look_first w reg (raw ∷ raws) = Get (w.version_alias reg.version) (raw ∷ raws)
 
+-- the answer from the rows that were found
 abbrev pub found_answer : {A O : Type 0} → Registry O → Bool → Text → List Look → Reply (Doc A) → Answer A
 found_answer reg alone space ls (Found rows) = form alone (looked reg space ls rows)
 found_answer reg alone space ls _ = refused NotReady
 
+-- the answer to a read
 abbrev pub look_answer : {A O : Type 0} → Registry O → Bool → Text → List Text → List Look → Reply (Doc A) → Answer A
 look_answer reg alone space [] ls reply = form alone (looked reg space ls [])
 look_answer reg alone space (raw ∷ raws) ls reply = found_answer reg alone space ls reply
 
+-- the answer to a search
 abbrev pub page_answer : {A O F : Type 0} → Words A O F → Registry O → Text → Find → Reply (Doc A) → Answer A
 page_answer w reg space f (Selected total rows) = page_of reg f total rows
 page_answer w reg space f _ = refused NotReady
@@ -176,6 +186,7 @@ abbrev pub follow_target : {A O F : Type 0} → Words A O F → Registry O → T
 follow_target w reg space q None exact = Answers (resolved_by reg space q None exact (λ a. None))
 follow_target w reg space q (Some a) exact = Asks (Get (w.version_alias reg.version) (raw_of reg space q ∷ alias_of space q ∷ target_raw a ∷ []))
 
+-- what the first reply of a resolve leads to
 abbrev pub follow_then : {A O F : Type 0} → Words A O F → Registry O → Text → Target → Reply (Doc A) → Next A F
 follow_then w reg space q (Found (exact ∷ link ∷ [])) = follow_target w reg space q (alias_target w (cell_of link)) (cell_of exact)
 follow_then w reg space q _ = Answers (refused NotReady)
@@ -185,6 +196,7 @@ abbrev pub follow_between : {A O F : Type 0} → Words A O F → Registry O → 
 follow_between w reg space q seen exact link goal =
     if same_number (number_of seen) (number_of link) then resolved_by reg space q (alias_target w link) exact (λ a. goal) else refused (Busy (number_of seen) (number_of link))
 
+-- the answer of a resolve from both replies
 abbrev pub follow_last : {A O F : Type 0} → Words A O F → Registry O → Text → Target → Reply (Doc A) → Reply (Doc A) → Answer A
 follow_last w reg space q (Found (exact ∷ link ∷ [])) (Found (exact2 ∷ link2 ∷ goal2 ∷ [])) = follow_between w reg space q (cell_of link) (cell_of exact2) (cell_of link2) (cell_of goal2)
 follow_last w reg space q _ _ = refused NotReady

@@ -12,6 +12,7 @@ rises_from k [] = true
 rises_from None (e ∷ es) = rises_from (Some e.0) es
 rises_from (Some k) (e ∷ es) = text_lt k e.0 && rises_from (Some e.0) es
 
+-- the keys rise
 abbrev pub rises : {V : Type 0} → Keyed V → Bool
 rises es = rises_from None es
 
@@ -20,6 +21,7 @@ abbrev pub at_most : {D : Type 0} → Option ℕ → Rows D → Bool
 at_most None rows = true
 at_most (Some n) rows = nat_le (length rows) n
 
+-- no row, or one of this raw id
 abbrev pub is_of : {D : Type 0} → Text → Option (Text × Cell D) → Bool
 is_of raw None = true
 is_of raw (Some row) = same raw row.0

@@ -34,10 +34,12 @@ next w reg call reply = then_of_work w reg (work_of w reg call) reply
 abbrev pub last : {A O F : Type 0} → Words A O F → Registry O → Call A → (one two : Reply (Doc A)) → Answer A
 last w reg call one two = last_of_work w reg (work_of w reg call) one two
 
+-- the request that follows, if any
 abbrev pub asked : {A F : Type 0} → Next A F → Option (Request (Doc A) (Query F))
 asked (Answers a) = None
 asked (Asks ask) = Some ask
 
+-- the answer, if there is one
 abbrev pub answer_of : {A F : Type 0} → Next A F → Option (Answer A)
 answer_of (Answers a) = Some a
 answer_of (Asks ask) = None
@@ -48,6 +50,7 @@ asks_over w reg [] heard = None
 asks_over w reg (call ∷ calls) None = Some (first w reg call)
 asks_over w reg (call ∷ calls) (Some reply) = asked (next w reg call reply)
 
+-- the next call is in hand
 abbrev pub with_next : {A O : Type 0} → Script A O → List (Call A) → Script A O
 with_next c calls = record { registry = c.registry; calls = calls; heard = None; number = c.number + 1 }
 
@@ -56,6 +59,7 @@ abbrev pub moved_on : {A O F : Type 0} → Script A O → List (Call A) → Repl
 moved_on c calls reply (Answers a) = with_next c calls
 moved_on c calls reply (Asks ask) = record { registry = c.registry; calls = c.calls; heard = Some reply; number = c.number }
 
+-- a reply moves the call in hand on
 abbrev pub told_over : {A O F : Type 0} → Words A O F → Script A O → List (Call A) → Option (Reply (Doc A)) → Reply (Doc A) → Script A O
 told_over w c [] heard reply = c
 told_over w c (call ∷ calls) None reply = moved_on c calls reply (next w c.registry call reply)
@@ -69,6 +73,7 @@ clients w = record {
   call = λ c. c.number;
 }
 
+-- the answer of the call in hand from this reply, if it decides it
 abbrev pub decided_over : {A O F : Type 0} → Words A O F → Registry O → List (Call A) → Option (Reply (Doc A)) → Reply (Doc A) → Option (Answer A)
 decided_over w reg [] heard reply = None
 decided_over w reg (call ∷ calls) None reply = answer_of (next w reg call reply)
@@ -82,6 +87,7 @@ decided w c reply = decided_over w c.registry c.calls c.heard reply
 abbrev pub own : {A O F : Type 0} → Words A O F → Registry O → Generations (Doc A) → Option (Generation (Doc A))
 own w reg gs = of_alias (w.version_alias reg.version) gs
 
+-- what the call in hand means; a script without calls means nothing
 abbrev pub outcome_over : {A O F : Type 0} → Words A O F → Registry O → List (Call A) → Generations (Doc A) → Generations (Doc A) → Outcome A
 outcome_over w reg [] gs1 gs2 = (None, refused NotReady)
 outcome_over w reg (call ∷ calls) gs1 gs2 = called w reg call (own w reg gs1) (own w reg gs2)
@@ -99,6 +105,7 @@ unfoldable pub replaced : {D : Type 0} → Text → Table D → Generations D �
 replaced name t [] = []
 replaced name t (g ∷ gs) = if same name g.alias then with_table g t ∷ gs else g ∷ replaced name t gs
 
+-- the generation of the alias with this table, where there is one
 abbrev pub replaced_where : {D : Type 0} → Text → Option (Table D) → Generations D → Generations D
 replaced_where name None gs = gs
 replaced_where name (Some t) gs = replaced name t gs
@@ -107,6 +114,7 @@ replaced_where name (Some t) gs = replaced name t gs
 abbrev pub left : {A O F : Type 0} → Words A O F → Script A O → Generations (Doc A) → Generations (Doc A) → Generations (Doc A)
 left w c gs1 gs2 = replaced_where (w.version_alias c.registry.version) (outcome w c gs1 gs2).0 gs2
 
+-- the second request, where the first reply leads to one
 abbrev pub perform_next : {A O F : Type 0} → Words A O F → Registry O → Call A → (first : Reply (Doc A)) → Store (Doc A) → Next A F → Store (Doc A) × Answer A
 perform_next w reg call one st (Answers a) = (st, a)
 perform_next w reg call one st (Asks ask) = ((serve (select w.holds) st ask).0, last w reg call one (serve (select w.holds) st ask).1)

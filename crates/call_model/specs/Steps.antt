@@ -26,11 +26,13 @@ pub data Turn (A : Type 0) : Type 0 where
   Denied : Refuse → Turn A
   Goes : (raw : Text) → (act : Act A) → Turn A
 
+-- an item, by its own words and by whether its raw id is taken
 abbrev pub turn_over : {A : Type 0} → Option Refuse → Bool → Text → Act A → Turn A
 turn_over (Some r) repeated raw act = Denied r
 turn_over None true raw act = Denied Conflict
 turn_over None false raw act = Goes raw act
 
+-- an item that its own words don't refuse takes its raw id
 abbrev pub taken_after : Option Refuse → Text → List Text → List Text
 taken_after (Some r) raw taken = taken
 taken_after None raw taken = raw ∷ taken
@@ -52,6 +54,7 @@ all_denied (Goes raw act ∷ ts) = false
 abbrev pub Stepper : Type 0 → Type 0
 Stepper A = Text → Act A → Table (Doc A) → Table (Doc A) × Answer A
 
+-- the answer of an item before those of the items after it
 abbrev pub and_then : {A : Type 0} → Answer A → Table (Doc A) × List (Answer A) → Table (Doc A) × List (Answer A)
 and_then one rest = (rest.0, one ∷ rest.1)
 
@@ -106,6 +109,7 @@ item_step w reg space read blocked raw act t = item_over w reg space blocked raw
 abbrev pub look_words : {O : Type 0} → Registry O → Target → Option Refuse
 look_words reg t = first_of ((is_unknown reg t.type_name, UnsupportedType) ∷ (bad_id t.id, BadId) ∷ [])
 
+-- a row that has the type and is visible
 abbrev pub seen_over : {A O : Type 0} → Registry O → Text → Target → Option (Cell (Doc A)) → Option (Cell (Doc A))
 seen_over reg space t None = None
 seen_over reg space t (Some c) = if is_seen reg space t.type_name c.doc then Some c else None
@@ -124,14 +128,17 @@ pub data Look : Type 0 where
   Refuses : Refuse → Look
   At : Target → Look
 
+-- a target, by the words of its read
 abbrev pub look_over : Option Refuse → Target → Look
 look_over None t = At t
 look_over (Some r) t = Refuses r
 
+-- the targets of a read
 abbrev pub looks : {O : Type 0} → Registry O → List Target → List Look
 looks reg [] = []
 looks reg (t ∷ ts) = look_over (look_words reg t) t ∷ looks reg ts
 
+-- no target is left to look up
 abbrev pub all_refused : List Look → Bool
 all_refused [] = true
 all_refused (Refuses r ∷ ls) = all_refused ls
@@ -145,14 +152,17 @@ all_got reg space (At t ∷ ls) rows = got reg (raw_of reg space t) (object_at r
 
 -- find
 
+-- one of the types isn't known
 abbrev pub any_unknown : {O : Type 0} → Registry O → List Text → Bool
 any_unknown reg [] = false
 any_unknown reg (n ∷ ns) = is_unknown reg n || any_unknown reg ns
 
+-- a filter is given that isn't of the form of filters
 abbrev pub bad_filter : {A O F : Type 0} → Words A O F → Option Text → Bool
 bad_filter w None = false
 bad_filter w (Some f) = is_none (w.read_filter f)
 
+-- the filter that is given
 abbrev pub filter_of : {A O F : Type 0} → Words A O F → Option Text → Option F
 filter_of w None = None
 filter_of w (Some f) = w.read_filter f
@@ -161,6 +171,7 @@ filter_of w (Some f) = w.read_filter f
 abbrev pub find_words : {A O F : Type 0} → Words A O F → Registry O → Text → Find → Option Refuse
 find_words w reg space f = first_of ((not (is_space space), BadSpace) ∷ (any_unknown reg f.types, UnsupportedType) ∷ (f.page == 0 || nat_lt 10000 f.per_page, BadPage) ∷ (bad_filter w f.filter, BadFilter) ∷ [])
 
+-- the types with their kinds
 abbrev pub with_kinds : {O : Type 0} → Registry O → List Text → List TypeKind
 with_kinds reg [] = []
 with_kinds reg (n ∷ ns) = record { name = n; kind = kind_over (known reg n) } ∷ with_kinds reg ns
@@ -182,6 +193,7 @@ query_of w reg space f = record {
   filter = filter_of w f.filter;
 }
 
+-- rows as objects
 abbrev pub all_shown : {A O : Type 0} → Registry O → Rows (Doc A) → List (Shown A)
 all_shown reg [] = []
 all_shown reg (r ∷ rows) = shown reg r.0 r.1.seq r.1.doc ∷ all_shown reg rows
@@ -200,6 +212,7 @@ resolve_words reg space t = first_of ((not (is_space space), BadSpace) ∷ (is_u
 abbrev pub alias_of : Text → Target → Text
 alias_of space t = alias_raw space t.type_name t.id
 
+-- the target of two texts that are there
 abbrev pub target_over : Option Text → Option Text → Option Target
 target_over (Some name) (Some id) = Some (record { type_name = name; id = id })
 target_over _ _ = None
@@ -224,6 +237,7 @@ abbrev pub counted_over : {A O : Type 0} → Registry O → Text → Target → 
 counted_over reg space t None row = None
 counted_over reg space t (Some k) row = seen_over reg space t row
 
+-- the row of an alias's target, where it counts
 abbrev pub counted : {A O : Type 0} → Registry O → Text → Target → Option (Cell (Doc A)) → Option (Cell (Doc A))
 counted reg space t row = counted_over reg space t (known reg t.type_name) row
 
@@ -250,6 +264,7 @@ resolve w reg space t rows = resolved_by reg space t (alias_target w (at (alias_
 
 -- whole calls
 
+-- a refusal of a whole call
 abbrev pub refused : {A : Type 0} → Refuse → Answer A
 refused r = Refused r
 
@@ -264,6 +279,7 @@ one_of (Object o) = One.Object o
 one_of (Refused r) = One.Refused r
 one_of _ = One.Refused NotFound
 
+-- the answers of a bulk's items
 abbrev pub each_of : {A : Type 0} → List (Answer A) → List (One A)
 each_of [] = []
 each_of (a ∷ answers) = one_of a ∷ each_of answers
@@ -273,6 +289,7 @@ abbrev pub form : {A : Type 0} → Bool → List (Answer A) → Answer A
 form true answers = lone answers
 form false answers = Each (each_of answers)
 
+-- the items of a bulk of creates
 abbrev pub creates : {A : Type 0} → Bool → Option Text → List (NewObject A) → List (Act A)
 creates overwrite time [] = []
 creates overwrite time (o ∷ os) = Create o overwrite time ∷ creates overwrite time os
@@ -285,10 +302,12 @@ pub data Work (A : Type 0) : Type 0 where
   Searching : (space : Text) → Find → Work A
   Following : (space : Text) → Target → Work A
 
+-- a refusal before all else
 abbrev pub unless : {A : Type 0} → Bool → Refuse → Work A → Work A
 unless true r work = Refusing r
 unless false r work = work
 
+-- the refusal by a call's words before all else
 abbrev pub unless_words : {A : Type 0} → Option Refuse → Work A → Work A
 unless_words (Some r) work = Refusing r
 unless_words None work = work
@@ -306,6 +325,7 @@ work_of w reg (Finding space f) = unless_words (find_words w reg space f) (Searc
 abbrev pub Outcome : Type 0 → Type 0
 Outcome A = Option (Table (Doc A)) × Answer A
 
+-- what items leave, and their answers
 abbrev pub answered : {A : Type 0} → Bool → Table (Doc A) × List (Answer A) → Outcome A
 answered alone r = (Some r.0, form alone r.1)
 

@@ -17,6 +17,7 @@ use Rattle.call_model.specs.Words.{Words}
 use Rattle.call_model.specs.Acts.{latest_of}
 use Rattle.call_model.specs.Scripts.{Script, clients}
 
+-- a stamp isn't below the latest version, where there is one
 abbrev pub up_to_date : Option Ver → Option Ver → Bool
 up_to_date None stamp = true
 up_to_date (Some l) stamp = not (below stamp l)
@@ -37,10 +38,12 @@ pub record Named : Type 0 where
   -- a version as a text
   pub text : Ver → Text
 
+-- the names of types
 abbrev pub type_names : {O : Type 0} → Keyed (Known O) → List Text
 type_names [] = []
 type_names (t ∷ ts) = t.0 ∷ type_names ts
 
+-- a type with its latest version before the others
 abbrev pub with_latest : Text → Option Ver → List TypeVer → List TypeVer
 with_latest name None rest = rest
 with_latest name (Some v) rest = record { name = name; latest = v } ∷ rest
@@ -123,10 +126,12 @@ pub record Rollout (A O F : Type 0) : Type 0 where
   pub instances : ℕ
   pub scripts : List (Script A O)
 
+-- what instances of each set know
 abbrev pub all_settings : {A O F : Type 0} → Words A O F → Named → List (TargetSet O) → List (Settings (Doc A) (Query F))
 all_settings w names [] = []
 all_settings w names (set ∷ sets) = settings_of w names set ∷ all_settings w names sets
 
+-- the opening as a race knows it
 abbrev pub opening_of : {A O F : Type 0} → Words A O F → Named → Start A O → Opening (Doc A) (Query F)
 opening_of w names Empty = NoGeneration
 opening_of w names (Holding set table) = OneGeneration (settings_of w names set) table
@@ -142,6 +147,7 @@ scenario_of r = record {
   scripts = r.scripts;
 }
 
+-- a version as a text, if there is one
 abbrev pub text_of : (Ver → Text) → Option Ver → Option Text
 text_of text None = None
 text_of text (Some v) = Some (text v)

@@ -23,10 +23,7 @@ pub enum Refuse {
     /// The given stamp is above the latest version of the type.
     TooNew,
     /// The row had the number `seen` when the call read it and has the number `now` when it wrote.
-    Busy {
-        seen: Option<u64>,
-        now: Option<u64>,
-    },
+    Busy { seen: Option<u64>, now: Option<u64> },
     /// The page is 0, or has more than 10,000 objects.
     BadPage,
     /// The filter isn't of the form of filters.

@@ -1,9 +1,9 @@
 -- Rollouts for which all premises hold: a chain of three versions, over documents and over nothing, with clients that write.
-use Rattle.std.proofs.Common.{◌≡◌, ◌≢◌, ◌<◌, ◌⊎◌, ℕ, zero, suc, List, [], ◌∷◌, ◌++◌, Bool, true, false, Option, Some, None, refl, sym, ◌∙◌, ap, subst, arith, if◌then◌else◌, ◌==◌, IsTrue}
+use Rattle.std.proofs.Common.{◌≡◌, ◌≢◌, ◌<◌, ◌⊎◌, ℕ, List, [], ◌∷◌, Bool, true, false, Option, Some, None, refl, sym, ap, subst, arith, if◌then◌else◌, ◌==◌}
 use mathlib.Core.Logic.◌⊎◌.{inl, inr}
 use lib.Chars.{codes}
 use Rattle.base_model.specs.Keyed.{Text, Keyed, same, text_lt, at}
-use Rattle.race_model.specs.Stores.{Cell, Rows, Table}
+use Rattle.race_model.specs.Stores.{Cell, Table}
 use Rattle.race_model.specs.Worlds.{Event}
 use Rattle.race_model.specs.Worlds.Event.{Step}
 use Rattle.race_model.specs.Journals.{Has}
@@ -12,15 +12,15 @@ use Rattle.race_model.specs.Openings.{world_after}
 use Rattle.race_tables.proofs.Keys.{apart_from_false}
 use Rattle.race_follow.proofs.Laws.{worlds_conform}
 use Rattle.space_scope.specs.declared.kind.Kind.TheVariants.{Single}
-use Rattle.document_model.specs.Documents.{ver_lt, Doc, lists}
+use Rattle.document_model.specs.Documents.{Doc, lists}
 use Rattle.call_model.specs.Scripts.{Script}
 use Rattle.call_model.specs.History.{IsLegal}
 use Rattle.call_model.specs.Upgrades.{TargetSet, Start, Rollout, scenario_of, named_version, names_apart}
 use Rattle.call_model.specs.Upgrades.Start.{Empty, Holding}
 use Rattle.call_laws.specs.Meanings.{Numbered}
-use Rattle.upgrade_laws.specs.Premises.{IsRegistry, NamesApart, StartsWell, Begins, AllBegin, IsRollout}
+use Rattle.upgrade_laws.specs.Premises.{IsRegistry, NamesApart, StartsWell, AllBegin, IsRollout}
 use Rattle.upgrade_laws.proofs.Claims.{legal}
-use Rattle.call_rows.proofs.Example.{version, words, names, registry, set_of, default_space, create, update, get, client, plain_doc}
+use Rattle.call_rows.proofs.Example.{words, names, registry, set_of, default_space, create, update, get, client, plain_doc}
 
 abbrev dashboard : Text
 dashboard = codes "dashboard"

@@ -1,12 +1,12 @@
 -- Worked rollouts, computed.
-use Rattle.std.proofs.Common.{◌≡◌, ℕ, zero, suc, List, [], ◌∷◌, ◌++◌, length, true, false, Option, Some, None, refl, drop, ◌-◌, if◌then◌else◌, ◌==◌}
+use Rattle.std.proofs.Common.{◌≡◌, ℕ, zero, suc, List, [], ◌∷◌, ◌++◌, length, false, Option, Some, None, refl, drop, ◌-◌, if◌then◌else◌}
 use lib.Chars.{codes}
 use Rattle.base_model.specs.Keyed.{Text, Keyed, same, text_lt, at, put, without}
-use Rattle.race_model.specs.Stores.{Item, Reply, Rows, Table, Index, write, write_all, items_of, numbered, pit_at, close, meant, aliases_without, act, act_all, serve}
+use Rattle.race_model.specs.Stores.{Item, Reply, Rows, Index, write, write_all, items_of, numbered, pit_at, close, meant, aliases_without, act, act_all, serve}
 use Rattle.race_model.specs.Machines.{Cause, Machine, State, request, moved, raws_where, collision, pass_after, gathered, batch, last_of, rewrites}
 use Rattle.race_model.specs.Machines.End.{Fatal}
 use Rattle.race_model.specs.Machines.State.{Ended}
-use Rattle.race_model.specs.Worlds.{Actor, Entry, Event, Node, World, nth, with_nth, happens, run}
+use Rattle.race_model.specs.Worlds.{Entry, Event, Node, World, nth, with_nth, happens, run}
 use Rattle.race_model.specs.Worlds.Event.{Step, Start}
 use Rattle.race_model.specs.Openings.{world_after}
 use Rattle.document_model.specs.declared.reference.Ref.{Ref}
@@ -17,7 +17,7 @@ use Rattle.document_model.specs.Migrations.{outcome}
 use Rattle.query_model.specs.Queries.{Query, is_outdated, chosen}
 use Rattle.call_model.specs.declared.refuse.Refuse.{Refuse}
 use Rattle.call_model.specs.declared.refuse.MatchKind.{MatchKind}
-use Rattle.call_model.specs.Calls.{Answer, Call}
+use Rattle.call_model.specs.Calls.{Answer}
 use Rattle.call_model.specs.Calls.Answer.{Resolved, Refused}
 use Rattle.call_model.specs.Calls.Call.{Resolving}
 use Rattle.call_model.specs.Acts.{is_space, own_words, is_seen, judge, act_step}

@@ -1,8 +1,8 @@
 -- Worked calls of one thread, computed.
-use Rattle.std.proofs.Common.{◌≡◌, ℕ, List, [], ◌∷◌, ◌++◌, true, false, Option, Some, None, refl, drop}
+use Rattle.std.proofs.Common.{◌≡◌, ℕ, List, [], ◌∷◌, true, false, Option, Some, None, refl, drop}
 use lib.Chars.{codes}
 use Rattle.base_model.specs.Keyed.{Text, Keyed, same, text_lt, at, put, without}
-use Rattle.race_model.specs.Stores.{Rows, Table, empty_table}
+use Rattle.race_model.specs.Stores.{Table, empty_table}
 use Rattle.space_scope.specs.declared.kind.Kind.TheVariants.{Single, Multiple, MultipleIsolated}
 use Rattle.document_model.specs.Documents.{ver_lt, Doc, lists, after}
 use Rattle.document_model.specs.Registries.{Registry, known, greatest}
@@ -10,12 +10,12 @@ use Rattle.query_model.specs.declared.parts.Sort.{Sort}
 use Rattle.query_model.specs.Queries.{is_outdated, chosen}
 use Rattle.call_model.specs.declared.refuse.Refuse.{Refuse}
 use Rattle.call_model.specs.declared.refuse.MatchKind.{MatchKind}
-use Rattle.call_model.specs.Calls.{Call, Answer, One, Shown, NewObject, Given}
+use Rattle.call_model.specs.Calls.{Call, Answer, One, Shown}
 use Rattle.call_model.specs.Calls.Answer.{Each, Deleted, Page, Spaces, Resolved, Refused}
 use Rattle.call_model.specs.Calls.Call.{BulkCreating, BulkGetting, Resolving, Finding}
 use Rattle.call_model.specs.Acts.{is_space, own_words, is_seen, judge, act_step}
 use Rattle.call_model.specs.Steps.{turns, each_turn, all_got, alias_target, resolve, work_of, call_step}
-use Rattle.call_rows.proofs.Example.{version, words, registry, target, default_space, new_object, create, update, delete, share, get, applied, table_after, object, raws, plain_doc}
+use Rattle.call_rows.proofs.Example.{version, words, registry, target, default_space, new_object, create, update, delete, share, get, applied, object, raws}
 
 abbrev dashboard : Text
 dashboard = codes "dashboard"

@@ -50,6 +50,7 @@ abbrev pub refers : List Ref → Target → Bool
 refers [] t = false
 refers (r ∷ rs) t = (same r.type_name t.type_name && same r.id t.id) || refers rs t
 
+-- the origin is this id
 abbrev pub origin_is : Text → Option Text → Bool
 origin_is o None = false
 origin_is o (Some x) = same o x
@@ -85,6 +86,7 @@ abbrev pub not_after : {A : Type 0} → Bool → Doc A → Doc A → Bool
 not_after false a b = not (text_lt (time_of b.updated_at) (time_of a.updated_at))
 not_after true a b = not (text_lt (time_of a.updated_at) (time_of b.updated_at))
 
+-- a row put before the first that it doesn't come after
 abbrev pub placed : {A : Type 0} → Bool → Text × Cell (Doc A) → Rows (Doc A) → Rows (Doc A)
 placed descending r [] = r ∷ []
 placed descending r (s ∷ rows) = if not_after descending r.1.doc s.1.doc then r ∷ s ∷ rows else s ∷ placed descending r rows
@@ -105,6 +107,7 @@ unfoldable pub chosen : {A F : Type 0} → Holds A F → Query F → Rows (Doc A
 chosen holds q [] = []
 chosen holds q (r ∷ rows) = if selects holds q r.0 r.1.doc then r ∷ chosen holds q rows else chosen holds q rows
 
+-- at most so many rows
 abbrev pub limited : {A : Type 0} → Option ℕ → Rows (Doc A) → Rows (Doc A)
 limited None rows = rows
 limited (Some n) rows = take n rows

@@ -6,8 +6,8 @@ use Rattle.std.proofs.Math.Nat.{add-div_right, div-eq_of_lt, div-mul-le_self, ze
 use Rattle.std.proofs.lemmas.Nat.{le-div}
 use mathlib.Core.Logic.◌⊎◌.{inl, inr}
 use Rattle.base_model.specs.Keyed.{Text, same}
-use Rattle.race_model.specs.Stores.{Cell, Rows, Table}
-use Rattle.race_model.specs.Machines.{Settings, Cause, End, moved}
+use Rattle.race_model.specs.Stores.{Rows}
+use Rattle.race_model.specs.Machines.{Cause, End, moved}
 use Rattle.race_model.specs.Machines.State.{Ended}
 use Rattle.race_model.specs.Machines.End.{Fatal}
 use Rattle.race_model.specs.Generations.{Generation, Generations, of_alias, new_generation}
@@ -15,7 +15,7 @@ use Rattle.race_model.specs.Worlds.{Entry, Event, nth}
 use Rattle.race_model.specs.Worlds.Actor.{Instance}
 use Rattle.race_model.specs.Worlds.How.{Heard}
 use Rattle.race_model.specs.Journals.{Has, Past, state_of}
-use Rattle.race_model.specs.Sorted.{IsSorted, Each}
+use Rattle.race_model.specs.Sorted.{Each}
 use Rattle.race_model.specs.Premises.{IsOpening, Paged}
 use Rattle.race_model.specs.Runs.{IsRun}
 use Rattle.race_model.specs.Openings.{Scenario, IsEmptyOpening, opening_store, opening_generations, found_at_opening, IsJournal, world_after, trace_after, facts_of_journal}
@@ -31,17 +31,16 @@ use Rattle.race_claims.specs.Shown.{IsShown}
 use Rattle.race_claims.proofs.Claiming.{causes_shown}
 use Rattle.document_model.specs.Documents.{Doc}
 use Rattle.query_model.specs.Queries.{Query, select}
-use Rattle.call_model.specs.Scripts.{Script, clients}
+use Rattle.call_model.specs.Scripts.{Script}
 use Rattle.call_model.specs.History.{IsLegal, stood_before}
-use Rattle.call_model.specs.Upgrades.{TargetSet, settings_of, Start, Rollout, all_settings, opening_of, scenario_of, call_race, named_version, text_of}
+use Rattle.call_model.specs.Upgrades.{TargetSet, settings_of, Start, Rollout, opening_of, scenario_of, named_version, text_of}
 use Rattle.call_model.specs.Upgrades.Start.{Empty, Holding}
 use Rattle.call_laws.specs.Meanings.{Numbered}
-use Rattle.call_history.specs.Plans.{Plans}
 use Rattle.call_history.proofs.Growing.{AllNumbered}
 use Rattle.call_history.proofs.Planned.{plans}
 use Rattle.call_history.proofs.Standing.{none_yet}
 use Rattle.call_history.proofs.Legality.{legal_run, all_begin}
-use Rattle.upgrade_laws.specs.Premises.{StartsWell, Begins, AllBegin, IsRollout, pages_by}
+use Rattle.upgrade_laws.specs.Premises.{StartsWell, AllBegin, IsRollout, pages_by}
 use Rattle.upgrade_laws.proofs.Selecting.{page_take}
 use Rattle.upgrade_laws.proofs.Rolling.{In, Fresh, Sound, in_is, laws, all_sound}
 

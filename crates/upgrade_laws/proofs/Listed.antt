@@ -54,4 +54,3 @@ module _ {O : Type 0} where
 
   pub all_listed : (reg : Registry O) → IsRegistry reg → AllListed reg reg.types
   all_listed reg n = listed_in reg reg.types (all_in reg.types n)
-

@@ -1,11 +1,10 @@
 -- A rollout is a race for which all premises hold.
-use Rattle.std.proofs.Common.{◌≡◌, ◌≢◌, ◌<◌, ◌⊎◌, ℕ, zero, suc, Bool, true, false, ◌&&◌, not, Option, Some, None, List, [], ◌∷◌, ◌++◌, refl, sym, ◌∙◌, ap, subst, arith, IsTrue}
+use Rattle.std.proofs.Common.{◌≡◌, ◌≢◌, ◌<◌, ◌⊎◌, ℕ, zero, suc, Bool, true, false, ◌&&◌, not, Option, Some, None, List, [], ◌∷◌, ◌++◌, refl, sym, ◌∙◌, ap, subst, arith}
 use mathlib.Core.Logic.◌⊎◌.{inl, inr}
 use Rattle.base_model.specs.Keyed.{Text}
 use Rattle.race_model.specs.Stores.{Cell, Rows, Write, Request, Reply}
 use Rattle.race_model.specs.Stores.Request.{Ping, Get, Search, Bulk}
 use Rattle.race_model.specs.Machines.{Settings, outputs_of}
-use Rattle.race_model.specs.Worlds.{Race}
 use Rattle.race_model.specs.Journals.{Has}
 use Rattle.race_model.specs.Sorted.{IsSorted, Each}
 use Rattle.race_model.specs.Premises.{VersionsInOrder, NotBelow, FreshWrites, FreshFound, AllFreshFound, FreshReply, IsOf, AsksOf, RaceLaws}
@@ -15,13 +14,12 @@ use Rattle.version_token.specs.declared.Ver.{Ver}
 use Rattle.document_model.specs.Documents.{ver_lt, Doc}
 use Rattle.document_model.specs.Registries.{Registry}
 use Rattle.query_model.specs.Queries.{Query, select}
-use Rattle.call_model.specs.Words.{Words}
-use Rattle.call_model.specs.Scripts.{Script, clients, told_over}
+use Rattle.call_model.specs.Scripts.{Script, clients}
 use Rattle.call_model.specs.Upgrades.{is_fresh, is_above, is_that, TargetSet, settings_of, Rollout, all_settings, call_race}
 use Rattle.call_laws.proofs.Versions.{lt_trans, lt_level}
 use Rattle.call_laws.proofs.Fitting.{ver_self}
 use Rattle.call_laws.proofs.Keeping.{OnAlias, FreshAsk, FreshHeard, script_on_alias, script_fresh, script_keeps, script_registry}
-use Rattle.upgrade_laws.specs.Premises.{NamesApart, Begins, AllBegin, IsRollout}
+use Rattle.upgrade_laws.specs.Premises.{NamesApart, AllBegin, IsRollout}
 use Rattle.upgrade_laws.proofs.Selecting.{page_is, each_selected, none_outdated}
 use Rattle.upgrade_laws.proofs.Listed.{all_listed}
 use Rattle.upgrade_laws.proofs.Moves.{outcome_fresh}

@@ -1,6 +1,5 @@
 -- What a rollout takes for granted: names apart, registries that are well formed, and scripts that begin.
-use Rattle.std.specs.Prelude.{◌≡◌, ◌≢◌, ◌<◌, ◌⊎◌, ℕ, ◌+◌, ◌-◌, ◌/◌, length, List, [], ◌∷◌, Option, Some, None, IsTrue}
-use Rattle.base_model.specs.Keyed.{Text}
+use Rattle.std.specs.Prelude.{◌≡◌, ◌≢◌, ◌<◌, ◌⊎◌, ℕ, ◌+◌, ◌-◌, ◌/◌, length, List, [], ◌∷◌, Some, None, IsTrue}
 use Rattle.race_model.specs.Stores.{Rows}
 use Rattle.race_model.specs.Sorted.{IsSorted}
 use Rattle.race_model.specs.Journals.{Has}
@@ -41,6 +40,7 @@ pub record Begins {A O : Type 0} (sets : List (TargetSet O)) (c : Script A O) : 
   pub is_in : Has set sets
   pub registry : c.registry ≡ set.registry
 
+-- each script begins
 unfoldable pub AllBegin : {A O : Type 0} → List (TargetSet O) → List (Script A O) → Type 0
 AllBegin sets [] = Unit {0}
 AllBegin sets (c ∷ cs) = Begins sets c × AllBegin sets cs
