@@ -23,7 +23,7 @@ use Rattle.call_model.specs.History.{HistoryFact, entries_of, Fits, EntryHas, Hi
 use Rattle.call_model.specs.History.HistoryFact.{Changed}
 use Rattle.call_laws.specs.Meanings.{AsksOnly}
 use Rattle.call_laws.proofs.Keeping.{script_asks_only}
-use Rattle.call_laws.proofs.Replying.{IsClients, told_fits, query_limits}
+use Rattle.call_effects.proofs.Replying.{IsClients, told_fits, query_limits}
 use Rattle.call_history.specs.Plans.{MayBeMade, Reaches, Plans}
 use Rattle.call_history.proofs.Entries.{no_client, other_client, found_place}
 use Rattle.call_history.proofs.Standing.{may_of, one_more, Stand, AllStand, Onward, stand_other}

@@ -5,4 +5,5 @@ pub mod Entries
 pub mod Standing
 pub mod Deciding
 pub mod Legality
+pub mod Contended
 pub mod Laws

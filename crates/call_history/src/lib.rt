@@ -2,10 +2,10 @@
 //! and every run that conforms is legal.
 #![tactic(auto)]
 
-ghost use Rattle.std.specs.Prelude.{◌≡◌, ◌≢◌, ℕ, List, Option, Some};
+ghost use Rattle.std.specs.Prelude.{◌≡◌, ◌≢◌, ℕ, Bool, List, Option, Some};
 ghost use Rattle.base_model.specs.Keyed.{Text, at};
 ghost use Rattle.race_model.specs.Machines.{Settings};
-ghost use Rattle.race_model.specs.Generations.{Generation, Generations, of_alias};
+ghost use Rattle.race_model.specs.Generations.{Generation, Generations, Move, of_alias};
 ghost use Rattle.race_model.specs.Worlds.{Entry, nth};
 ghost use Rattle.race_model.specs.Journals.{Has};
 ghost use Rattle.race_model.specs.Runs.{IsRun};
@@ -15,15 +15,17 @@ ghost use Rattle.document_model.specs.Registries.{Registry};
 ghost use Rattle.query_model.specs.declared.parts.Target.{Target};
 ghost use Rattle.query_model.specs.Queries.{Query};
 ghost use Rattle.call_model.specs.Words.{Words};
-ghost use Rattle.call_model.specs.Calls.Call.{Resolving};
-ghost use Rattle.call_model.specs.Calls.Answer.{Refused};
+ghost use Rattle.call_model.specs.Calls.{NewObject, Act, One};
+ghost use Rattle.call_model.specs.Acts.{raw_of, target_of};
+ghost use Rattle.call_model.specs.Calls.Call.{Changing, BulkCreating, Resolving};
+ghost use Rattle.call_model.specs.Calls.Answer.{Each, Refused};
 ghost use Rattle.call_model.specs.declared.refuse.Refuse.TheVariants.{Busy};
 ghost use Rattle.call_model.specs.Steps.{alias_of, alias_target, called, call_step};
 ghost use Rattle.call_model.specs.Scripts.{Script};
 ghost use Rattle.call_model.specs.Upgrades.{call_race};
 ghost use Rattle.call_model.specs.History.{IsLegal};
-ghost use Rattle.call_history.specs.Plans.{Reaches, Plans};
-ghost use Rattle.call_history.specs.Claims.{AreNumbered, AreFresh, scenario};
+ghost use Rattle.call_history.specs.Plans.{Path, Reaches, Plans};
+ghost use Rattle.call_history.specs.Claims.{AreNumbered, AreFresh, Untouched, NeverBusyAt, scenario};
 
 /// On all generations that an opening may become, of any number of versions, a call makes one request,
 /// which decides it, or reads and then makes one more, which decides it however much later: with the
@@ -43,6 +45,18 @@ pub fn resolve_is_never_busy<A, O, F>()
         called w reg (Resolving space q) (Some seen) (Some now) ≡ call_step w reg now.blocked now.table (Resolving space q) }
     ensures not_busy { (w : Words A O F) (reg : Registry O) (space : Text) (q : Target) (now : Generation (Doc A)) (a b : Option ℕ) →
         (call_step w reg now.blocked now.table (Resolving space q)).1 ≢ Refused (Busy a b) }
+{}
+
+/// A change, or an item of a bulk, is busy only where somebody wrote its raw id under its version's alias
+/// between the call's two requests.
+pub fn busy_is_contended<A, O, F>()
+    ensures change { (w : Words A O F) (settings : ℕ → Settings (Doc A) (Query F)) (reg : Registry O) (space : Text) (act : Act A) (moves : List (Move (Doc A) (Query F))) (gs later : Generations (Doc A)) (seen now : Generation (Doc A)) (a b : Option ℕ) →
+        Path settings gs moves later → of_alias (w.version_alias reg.version) gs ≡ Some seen → of_alias (w.version_alias reg.version) later ≡ Some now →
+        Untouched (w.version_alias reg.version) (raw_of reg space (target_of act)) moves → (called w reg (Changing space act) (Some seen) (Some now)).1 ≢ Refused (Busy a b) }
+    ensures item { (w : Words A O F) (settings : ℕ → Settings (Doc A) (Query F)) (reg : Registry O) (space raw : Text) (objects : List (NewObject A)) (overwrite : Bool) (time : Option Text) (answers : List (One A))
+        (moves : List (Move (Doc A) (Query F))) (gs later : Generations (Doc A)) (seen now : Generation (Doc A)) →
+        Path settings gs moves later → of_alias (w.version_alias reg.version) gs ≡ Some seen → of_alias (w.version_alias reg.version) later ≡ Some now →
+        Untouched (w.version_alias reg.version) raw moves → (called w reg (BulkCreating space objects overwrite time) (Some seen) (Some now)).1 ≡ Each answers → NeverBusyAt reg space raw objects answers }
 {}
 
 /// Every journal that conforms and is a run of generations is legal: its facts, by playing the aliases

@@ -5,11 +5,6 @@ pub mod Writing
 pub mod Reading
 pub mod Fates
 pub mod Moments
-pub mod Versions
-pub mod Fitting
-pub mod Replying
 pub mod Resolving
 pub mod Keeping
 pub mod Performing
-pub mod Raws
-pub mod Refusals

@@ -38,21 +38,6 @@ Keeps gs _ = Unit {0}
 abbrev pub Numbered : {D : Type 0} → Table D → Type 0
 Numbered t = (raw : Text) (c : Cell _) → at raw t.rows ≡ Some c → c.seq < t.next
 
--- each row of a known type fits its raw id
-abbrev pub AllFit : {A O : Type 0} → Registry O → Rows (Doc A) → Type 0
-AllFit reg rows = (raw : Text) (c : Cell (Doc _)) (t : Known _) → at raw rows ≡ Some c → known reg c.doc.type_name ≡ Some t → fits t raw c.doc ≡ true
-
--- every item of this raw id is refused
-abbrev pub RefusedAt : {A O : Type 0} → Registry O → Text → Text → List (NewObject A) → List (One A) → Type 0
-RefusedAt reg space raw [] [] = Unit {0}
-RefusedAt reg space raw (o ∷ os) (one ∷ ones) = (raw_of reg space (record { type_name = o.type_name; id = o.id }) ≡ raw → (r : Refuse) × (one ≡ One.Refused r)) × RefusedAt reg space raw os ones
-RefusedAt reg space raw _ _ = ⊥
-
--- every item is refused
-abbrev pub AllRefused : {A : Type 0} → List (One A) → Type 0
-AllRefused [] = Unit {0}
-AllRefused (one ∷ ones) = ((r : Refuse) × (one ≡ One.Refused r)) × AllRefused ones
-
 -- the documents that a first reply showed are up to date
 abbrev pub HeardFresh : {A O : Type 0} → Registry O → Option (Reply (Doc A)) → Type 0
 HeardFresh reg None = Unit {0}

@@ -16,8 +16,8 @@ use Rattle.document_model.specs.Registries.{Registry}
 use Rattle.query_model.specs.Queries.{Query, select}
 use Rattle.call_model.specs.Scripts.{Script, clients}
 use Rattle.call_model.specs.Upgrades.{is_fresh, is_above, is_that, TargetSet, settings_of, Rollout, all_settings, call_race}
-use Rattle.call_laws.proofs.Versions.{lt_trans, lt_level}
-use Rattle.call_laws.proofs.Fitting.{ver_self}
+use Rattle.call_effects.proofs.Versions.{lt_trans, lt_level}
+use Rattle.call_effects.proofs.Fitting.{ver_self}
 use Rattle.call_laws.proofs.Keeping.{OnAlias, FreshAsk, FreshHeard, script_on_alias, script_fresh, script_keeps, script_registry}
 use Rattle.upgrade_laws.specs.Premises.{NamesApart, AllBegin, IsRollout}
 use Rattle.upgrade_laws.proofs.Selecting.{page_is, each_selected, none_outdated}

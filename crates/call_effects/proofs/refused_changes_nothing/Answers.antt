@@ -1,5 +1,5 @@
-use Rattle.call_laws.proofs.Refusals.{refused_quiet, bulk_quiet, nothing_left}
-use Rattle.call_laws.proofs.refused_changes_nothing.Goals as goal
+use Rattle.call_effects.proofs.Refusals.{refused_quiet, bulk_quiet, nothing_left}
+use Rattle.call_effects.proofs.refused_changes_nothing.Goals as goal
 
 pub returns-clause-call : goal.returns-clause-call
 returns-clause-call g c = λ w reg call read own why e. refused_quiet w reg read own call why e

@@ -18,7 +18,8 @@ use Rattle.call_model.specs.Acts.Deed.{Deny, Make, Remake, Drop}
 use Rattle.call_model.specs.Steps.{Turn, Stepper, number_of, same_number, where_same, item_over, item_step, turn_over, taken_after, turns, each_turn, all_denied, each_of, form, one_of, creates, looks, find_words, resolve_words, Work, unless, unless_words, work_of, Outcome, needs_no_store, rows_of, called_in, called_over, called}
 use Rattle.call_model.specs.Steps.Turn.{Goes}
 use Rattle.call_model.specs.Steps.Work.{Writing, Looking, Searching, Following}
-use Rattle.call_laws.specs.Meanings.{then_on, RefusedAt, AllRefused}
+use Rattle.call_laws.specs.Meanings.{then_on}
+use Rattle.call_effects.specs.Effects.{RefusedAt, AllRefused}
 use Rattle.call_laws.proofs.Items.{Sees, judge_sees}
 use Rattle.call_laws.proofs.Bulks.{Others}
 use Rattle.call_laws.proofs.Moments.{do_others}

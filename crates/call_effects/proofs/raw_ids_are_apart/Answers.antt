@@ -1,5 +1,5 @@
-use Rattle.call_laws.proofs.Raws.{one_object, one_space}
-use Rattle.call_laws.proofs.raw_ids_are_apart.Goals as goal
+use Rattle.call_effects.proofs.Raws.{one_object, one_space}
+use Rattle.call_effects.proofs.raw_ids_are_apart.Goals as goal
 
 pub returns : goal.returns
 returns c = λ kind kind2 space space2 name name2 id id2 p p2 q q2 a a2 e.

@@ -23,8 +23,9 @@ use Rattle.call_model.specs.Acts.Deed.{Deny, Make, Remake, Drop}
 use Rattle.call_model.specs.Steps.{Turn, number_of, same_number, where_same, item_over, item_step, turn_over, taken_after, turns, each_turn, all_denied, all_refused, creates, looks, find_words, resolve_words, Work, unless, unless_words, work_of, needs_no_store, rows_of, called_in, called_over, called}
 use Rattle.call_model.specs.Steps.Turn.{Denied, Goes}
 use Rattle.call_model.specs.Steps.Work.{Writing, Looking, Searching, Following}
-use Rattle.call_laws.specs.Meanings.{then_on, AllFit}
-use Rattle.call_laws.proofs.Versions.{lt_trans}
+use Rattle.call_laws.specs.Meanings.{then_on}
+use Rattle.call_effects.specs.Effects.{AllFit}
+use Rattle.call_effects.proofs.Versions.{lt_trans}
 
 nat_same : (n : ℕ) → (n == n) ≡ true
 nat_same n = grind (arith, nat_tests)
