@@ -125,7 +125,7 @@ fn copied_text(text: &Option<Text>) -> Result<Option<Text>, AllocError>
 }
 
 /// A document under its raw id, with the number of the write that put it there.
-#[derive(Debug, Drop)]
+#[derive(Clone, Debug, Drop)]
 pub struct Row {
     pub raw: Text,
     pub seq: u64,

@@ -16,3 +16,6 @@ pub use reading::{from_js, from_js_ref};
 pub use shared::SharedDoc;
 pub use visibility::visible;
 pub use writing::to_js;
+
+#[cfg(test)]
+mod tests;

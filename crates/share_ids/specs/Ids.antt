@@ -37,8 +37,11 @@ abbrev pub transforms : {O : Type 0} → (O → Js → Js) → Transforms Js O
 transforms apply = record { apply = apply; texts = texts_js; new_id = new_id }
 
 -- the attributes of that document
+abbrev pub alias_texts : (space name old new : Text) → Keyed Text
+alias_texts space name old new = (codes "sourceId", old) ∷ (codes "targetId", new) ∷ (codes "targetNamespace", space) ∷ (codes "targetType", name) ∷ []
+
 abbrev pub alias_attributes : (space name old new : Text) → Js
-alias_attributes space name old new = texts_js ((codes "sourceId", old) ∷ (codes "targetId", new) ∷ (codes "targetNamespace", space) ∷ (codes "targetType", name) ∷ [])
+alias_attributes space name old new = texts_js (alias_texts space name old new)
 
 -- the document that leads from an old id to a new one, which no operation changes
 abbrev pub alias_doc : Ver → (space name old new : Text) → Doc Js
