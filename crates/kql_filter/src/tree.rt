@@ -7,7 +7,9 @@ use std::alloc::{AllocError, AllocFailed};
 /// Why a text was not read as a filter.
 #[derive(Clone, Copy, Debug, PartialEq, Eq)]
 pub enum FilterError {
+    /// Want of memory.
     Memory,
+    /// The text is no filter.
     BadFilter,
 }
 
@@ -29,7 +31,7 @@ impl<T: Drop> From<AllocFailed<T>> for FilterError {
 
 /// A relation between whole numbers.
 #[derive(Clone, Copy, Debug, PartialEq, Eq)]
-pub enum Rel {
+pub enum Relation {
     AtMost,
     AtLeast,
     Below,
@@ -43,14 +45,14 @@ pub enum Test {
     Word(List<u8>),
     Prefix(List<u8>),
     Quoted(List<u8>),
-    Compare(Rel, i128),
+    Compare(Relation, i128),
 }
 
 /// The tree of a filter.
 #[derive(Debug, Drop)]
-pub enum Expr {
-    Or(Box<Expr>, Box<Expr>),
-    And(Box<Expr>, Box<Expr>),
-    Not(Box<Expr>),
+pub enum Expression {
+    Or(Box<Expression>, Box<Expression>),
+    And(Box<Expression>, Box<Expression>),
+    Not(Box<Expression>),
     Field(List<u8>, Test),
 }
