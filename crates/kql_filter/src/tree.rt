@@ -3,13 +3,16 @@ ghost use Rattle.kql_filter.specs.declared.tree.FilterError.TheVariants.{Memory}
 
 use plain_data::List;
 use std::alloc::{AllocError, AllocFailed};
+use thiserror::Error;
 
 /// Why a text was not read as a filter.
-#[derive(Clone, Copy, Debug, PartialEq, Eq)]
+#[derive(Clone, Copy, Debug, PartialEq, Eq, Error)]
 pub enum FilterError {
-    /// Want of memory.
+    /// Memory ran out.
+    #[error("out of memory")]
     Memory,
     /// The text is no filter.
+    #[error("no filter")]
     BadFilter,
 }
 
