@@ -1,5 +1,5 @@
 -- Migrating one document: one fold over the versions above its stamp.
-use Rattle.std.specs.Prelude.{ℕ, Bool, false, List, [], ◌∷◌, map, codes, Option, Some, None, if◌then◌else◌}
+use Rattle.std.specs.Prelude.{Bool, false, List, [], ◌∷◌, map, codes, Option, Some, None, if◌then◌else◌}
 use Rattle.base_model.specs.Keyed.{Text, Keyed}
 use Rattle.base_model.specs.Outcomes.{Outcome}
 use Rattle.base_model.specs.Outcomes.Outcome.{Removed, Unknown, TooNew, Corrupt, Outputs}
