@@ -1,8 +1,8 @@
-ghost use Rattle.std.specs.Prelude.{◌≡◌, ◌≤◌, [], false, true, Err, is_err, ◌+◌, ◌<◌, IfErr, OnOk};
+ghost use Rattle.std.specs.Prelude.{◌≡◌, ◌≤◌, [], false, true, Err, is_err, ◌+◌, ◌<◌, IfErr, OnOk, OnErr};
 ghost use Rattle.std.specs.Io.KnownBytes.{prepend_known};
 ghost use Rattle.wire_io.specs.Causes.{Rose};
 ghost use Rattle.std.specs.Str.Lines.{strip_carriage_return};
-ghost use Rattle.wire_io.specs.Answers.{TakesByte, AnswersNext, CountsLine};
+ghost use Rattle.wire_io.specs.Answers.{TakesByte, AnswersNext, TakesBytes, CountsLine};
 
 use crate::source::Source;
 use plain_data::List;
@@ -108,6 +108,7 @@ impl Lines {
         ensures bytes { TakesByte (prepend_known self.old.ahead (S.left source.old))
             (prepend_known self.new.ahead (S.left source.new)) result }
         ensures counts { (self.new.taken ≡ self.old.taken) × (self.new.failed ≡ self.old.failed) }
+    ensures ahead { OnErr result (self.new.ahead ≡ []) }
         ensures later { S.faults source.old ≤ S.faults source.new }
         ensures fault { IfErr result (λ e. (e ≡ ReadError.ReadFault) × Rose (S.faults source.old) (S.faults source.new)) }
     {
@@ -143,17 +144,23 @@ impl Lines {
 ///
 /// `Memory` where memory ran out; `ReadFault` where the source failed; `LineTooLong` and
 /// `InputTooLong` at the first byte past a limit. Bytes that were read ahead count when a line
-/// comes to them.
+/// comes to them. The source is read only where none are left ahead, so no line and no limit
+/// stands before a failed read.
 pub fn read_line<S: Source>(lines: &mut Lines, source: &mut S) -> Result<Line, ReadError>
     requires { lines.old.failed ≡ false }
     ensures next { AnswersNext lines.old.taken (prepend_known lines.old.ahead (S.left source.old))
         lines.new.taken (prepend_known lines.new.ahead (S.left source.new)) result }
+
+    // A line takes its bytes. What came before a failed read is a part of a line at most.
+    ensures bytes { TakesBytes lines.old.taken lines.new.taken (prepend_known lines.old.ahead (S.left source.old))
+        (prepend_known lines.new.ahead (S.left source.new)) result }
 
     // Each line takes a byte at least, and a limit is passed only by as many bytes.
     ensures counted { CountsLine lines.old.taken lines.new.taken result }
     ensures failed { lines.new.failed ≡ is_err result }
     ensures later { S.faults source.old ≤ S.faults source.new }
     ensures fault { result ≡ Err ReadError.ReadFault → Rose (S.faults source.old) (S.faults source.new) }
+    ensures ahead { result ≡ Err ReadError.ReadFault → lines.new.ahead ≡ [] }
 {
     let next = next_line(lines, source);
     lines.failed = next.is_err();
@@ -164,10 +171,15 @@ fn next_line<S: Source>(lines: &mut Lines, source: &mut S) -> Result<Line, ReadE
     ensures next { AnswersNext lines.old.taken (prepend_known lines.old.ahead (S.left source.old))
         lines.new.taken (prepend_known lines.new.ahead (S.left source.new)) result }
 
+    // A line takes its bytes. What came before a failed read is a part of a line at most.
+    ensures bytes { TakesBytes lines.old.taken lines.new.taken (prepend_known lines.old.ahead (S.left source.old))
+        (prepend_known lines.new.ahead (S.left source.new)) result }
+
     // Each line takes a byte at least, and a limit is passed only by as many bytes.
     ensures counted { CountsLine lines.old.taken lines.new.taken result }
     ensures later { S.faults source.old ≤ S.faults source.new }
     ensures fault { result ≡ Err ReadError.ReadFault → Rose (S.faults source.old) (S.faults source.new) }
+    ensures ahead { result ≡ Err ReadError.ReadFault → lines.new.ahead ≡ [] }
 {
     let mut line = List::new(lines.alloc());
     while let Some(byte) = lines.next_byte(source)? {
