@@ -1,6 +1,7 @@
 ghost use Rattle.std.specs.Prelude.{◌≡◌, ◌≤◌, [], Err, IfOk, IfSome, false};
 ghost use Rattle.wire_io.specs.Causes.{Rose};
 ghost use Rattle.kibana_main.specs.Report.{answers_text};
+ghost use Rattle.kibana_main.specs.Scenario.{FaultIsFirst};
 ghost use Rattle.kibana_main.specs.Store.{answers_from};
 ghost use Rattle.kibana_main.specs.Output.{is_apply_words, scenario_text, outcome_of, usage_outcome, Ends, Spends, IsCertain};
 
@@ -58,6 +59,9 @@ pub fn plain<S: Source, K: Sink>(
     ensures spent { result ≡ Status.Ok → Spends (S.left source.old) (S.left source.new) }
     ensures read { S.faults source.old ≤ S.faults source.new }
     ensures read_fault { result ≡ Status.ReadFault → Rose (S.faults source.old) (S.faults source.new) }
+
+    // A refused line or a passed limit that stands before the fault would have been answered.
+    ensures read_fault_first { result ≡ Status.ReadFault → FaultIsFirst (S.left source.old) (S.left source.new) }
     ensures write { K.faults sink.old ≤ K.faults sink.new }
     ensures write_fault { result ≡ Status.WriteFault → Rose (K.faults sink.old) (K.faults sink.new) }
 {
@@ -79,6 +83,7 @@ fn judge<S: Source>(alloc: Global, words: &List<Text>, source: &mut S) -> Result
     ensures known { is_apply_words words.now ≡ false → result ≡ Err Unknown.ReadFault → ⊥ }
     ensures later { S.faults source.old ≤ S.faults source.new }
     ensures fault { result ≡ Err Unknown.ReadFault → Rose (S.faults source.old) (S.faults source.new) }
+    ensures fault_first { result ≡ Err Unknown.ReadFault → FaultIsFirst (S.left source.old) (S.left source.new) }
 {
     if !is_apply(words) {
         let outcome = usage(alloc)?;

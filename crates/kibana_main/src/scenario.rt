@@ -3,7 +3,7 @@ ghost use Rattle.std.specs.Io.KnownBytes.{prepend_known, IsAtEnd};
 ghost use Rattle.wire_io.specs.Causes.{Rose};
 ghost use Rattle.so_js.specs.Tree.{is_sound};
 ghost use Rattle.kibana_main.specs.Members.{Gives};
-ghost use Rattle.kibana_main.specs.Scenario.{placed, tree_of_line, with_line, with_tree, with_placed, with_kind, with_registry, with_call, TakesLine, ReadsScenario};
+ghost use Rattle.kibana_main.specs.Scenario.{placed, tree_of_line, with_line, with_tree, with_placed, with_kind, with_registry, with_call, TakesLine, ReadsScenario, FaultIsFirst};
 
 use crate::call::{Call, read_call_line};
 use crate::line_kind::LineKind;
@@ -78,6 +78,7 @@ pub fn read_scenario<S: Source>(alloc: Global, source: &mut S) -> Result<Scenari
     ensures told { ReadsScenario (S.left source.old) (S.left source.new) result }
     ensures later { S.faults source.old ≤ S.faults source.new }
     ensures fault { result ≡ Err ScenarioError.ReadFault → Rose (S.faults source.old) (S.faults source.new) }
+    ensures fault_first { result ≡ Err ScenarioError.ReadFault → FaultIsFirst (S.left source.old) (S.left source.new) }
 {
     let mut lines = Lines::new(alloc);
     let mut scenario = Scenario {
