@@ -20,7 +20,6 @@ shown_of v st = seen_as v (at v.version st.aliases) (at v.target st.indices)
 abbrev pub AreShown : {D Q : Type 0} → List (Settings D Q) → Generations D → Store D → Type 0
 AreShown sets gs st = (v : Settings _ _) → Has v sets → of_alias v.version gs ≡ shown_of v st
 
-
 -- a migration or an install to this target stands among the facts
 abbrev pub HasFact : (target version : Text) → List Fact → Type 0
 HasFact target version fs = (place : ℕ) × (Has (Fact.Migrate place target version) fs ⊎ Has (Fact.Install place target version) fs)
