@@ -19,6 +19,7 @@ pub record ShortBy {D Q : Type 0} (pages : Rows D → ℕ) (sets : List (Setting
   pub blocked : index.blocked ≡ true
   pub few : k ≤ 14 + 2 * pages index.table.rows
 
+-- at most fourteen replies, or as many as its source allows
 abbrev pub IsShort : {D Q : Type 0} → (Rows D → ℕ) → List (Settings D Q) → Settings D Q → Store D → ℕ → Type 0
 IsShort pages sets v st k = (k ≤ 14) ⊎ ShortBy pages sets v st k
 

@@ -39,7 +39,7 @@ uncut_asks clients false script ask e = e
 unfoldable pub EachPlace : {A : Type 0} → (ℕ → A → Type 0) → List A → Type 0
 EachPlace {A = A} P xs = (i : ℕ) (x : A) → nth xs i ≡ Some x → P i x
 
-place_with : {A : Type 0} (P : ℕ → A → Type 0) (xs : List A) (i : ℕ) (x0 y : A) → EachPlace P xs → nth xs i ≡ Some x0 → P i y → EachPlace P (with_nth xs i y)
+pub place_with : {A : Type 0} (P : ℕ → A → Type 0) (xs : List A) (i : ℕ) (x0 y : A) → EachPlace P xs → nth xs i ≡ Some x0 → P i y → EachPlace P (with_nth xs i y)
 unfolding EachPlace
 place_with {A = A} P xs i x0 y a e h = λ j x f. by j x (i == j) refl f
   where

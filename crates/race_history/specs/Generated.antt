@@ -13,6 +13,7 @@ seen_as v None o = None
 seen_as v (Some i) None = None
 seen_as v (Some i) (Some ix) = Some (record { alias = v.version; index = v.target; blocked = ix.blocked; table = ix.table })
 
+-- the generation of this set, by its alias and its index
 abbrev pub shown_of : {D Q : Type 0} → Settings D Q → Store D → Option (Generation D)
 shown_of v st = seen_as v (at v.version st.aliases) (at v.target st.indices)
 

@@ -13,6 +13,7 @@ unfoldable pub rising_from : {V : Type 0} → Text → Keyed V → Bool
 rising_from name [] = true
 rising_from name (e ∷ es) = text_lt name e.0 && rising_from e.0 es
 
+-- the names of the list rise
 abbrev pub rising : {V : Type 0} → Keyed V → Bool
 rising [] = true
 rising (e ∷ es) = rising_from e.0 es
@@ -22,6 +23,7 @@ abbrev pub is_other : Option ℕ → ℕ → Bool
 is_other None n = false
 is_other (Some s) n = not (n == s)
 
+-- a number was expected
 abbrev pub is_given : Option ℕ → Bool
 is_given None = false
 is_given (Some s) = true
@@ -42,6 +44,7 @@ fits_items [] [] = true
 fits_items (w ∷ ws) (i ∷ is) = fits_item w i && fits_items ws is
 fits_items _ _ = false
 
+-- a row that was found has the raw id
 abbrev pub fits_found : {D : Type 0} → Text → Option (Text × Cell D) → Bool
 fits_found raw None = true
 fits_found raw (Some row) = same raw row.0
