@@ -17,9 +17,9 @@ use Rattle.race_model.specs.Premises.{Paged, AsksOf, RaceLaws}
 use Rattle.race_follow.proofs.Following.{nth_other, nth_here}
 use Rattle.race_tables.proofs.Requests.{meant_itself}
 use Rattle.race_tables.proofs.Lists.{Every, every_more, every_nth, every_has}
-use Rattle.race_facts.proofs.Racing.{every_phase, PastFacts, TraceFacts, place_at, made_cond, no_instance, no_client, client_asks, client_served, trace_step}
+use Rattle.race_facts.proofs.Racing.{every_state, PastFacts, TraceFacts, place_at, made_cond, no_instance, no_client, client_asks, client_served, trace_step}
 use Rattle.race_bound.proofs.Owning.{Owner, claimed, claimed_below, HeldOk, FreeOf, Spares, serve_kept, Agrees, held_kept, Holds, Bare, bare, bare_state, bare_check, bare_source_block, bare_create, bare_close, bare_temp_block, bare_clone, bare_after, bare_mark, bare_conflict, page_holds, bulk_holds, outdated_holds, open_holds, outdated_open_holds}
-use Rattle.race_facts.proofs.Facts.{StoreOk, Later, PhaseOk}
+use Rattle.race_facts.proofs.Facts.{StoreOk, Later, StateOk}
 use Rattle.race_facts.proofs.Switching.{request_served}
 use Rattle.race_bound.proofs.Costing.{Cost, Open, costs, cost_later, Within, cost_bound, cost_init}
 
@@ -32,7 +32,7 @@ module _ {D Q C : Type 0} (race : Race D Q C) (cur : Text) (In : Settings D Q �
   Ok st = StoreOk cur In Fresh Empty st
 
   abbrev At : ℕ → Store D → State D → Type 0
-  At i st state = PhaseOk cur In Fresh Empty (race.settings i) st state
+  At i st state = StateOk cur In Fresh Empty (race.settings i) st state
 
   abbrev HeldAt : ℕ → Owner → Store D → ℕ × ℕ → State D → Type 0
   HeldAt i o st a state = HeldOk race.select (race.settings i) o st a state
@@ -47,8 +47,8 @@ module _ {D Q C : Type 0} (race : Race D Q C) (cur : Text) (In : Settings D Q �
   HoldsTo i o st a state None = Unit {0}
   HoldsTo i o st a state (Some ask) = Holds race.select (race.settings i) (claimed o st.opened a) st (serve race.select st ask).0 a state (moved (s i) state (serve race.select st ask).1)
 
-  own_phase : (i : ℕ) (o : Owner) (st : Store D) (a : ℕ × ℕ) (ask : Request D Q) (state : State D) → Spares race.select (race.settings i) ask state → HeldAt i o st a state → HeldAt i (claimed o st.opened a) (serve race.select st ask).0 a state
-  own_phase i o st a ask state sp h = held_kept race.select (race.settings i) o (claimed o st.opened a) st a ask state (λ p lt. claimed_below o st.opened p a lt) sp h
+  own_state : (i : ℕ) (o : Owner) (st : Store D) (a : ℕ × ℕ) (ask : Request D Q) (state : State D) → Spares race.select (race.settings i) ask state → HeldAt i o st a state → HeldAt i (claimed o st.opened a) (serve race.select st ask).0 a state
+  own_state i o st a ask state sp h = held_kept race.select (race.settings i) o (claimed o st.opened a) st a ask state (λ p lt. claimed_below o st.opened p a lt) sp h
 
   bare_new : (i : ℕ) (st : Store D) (x : Option (Index D)) (alias : Option Text) → Bare race.select (race.settings i) (from_new_target (s i) (create_over x alias st (s i).target None).1)
   bare_new i st (Some ix) alias = tt
@@ -67,14 +67,14 @@ module _ {D Q C : Type 0} (race : Race D Q C) (cur : Text) (In : Settings D Q �
       let g = c.1.ground in
       let itself : meant st n ≡ n = meant_itself st n (subst (λ m. at m st.aliases ≡ None) (sym g.name) (b.aliases.no_target_alias g.set g.is_in)) in
       rw (itself, c.1.blocked.there) (open_holds race.select (race.settings i) o st a n c.1.blocked.index)
-  holds_ok i o st a (ReindexRead n p after pass) b c h = page_holds race.select (race.settings i) (claimed o st.opened a) st a n p after pass (read_over race.select (pit_at p st.pits) p ((s i).page after)) (own_phase i o st a (ReadPit p ((s i).page after)) (ReindexRead n p after pass) tt h)
+  holds_ok i o st a (ReindexRead n p after pass) b c h = page_holds race.select (race.settings i) (claimed o st.opened a) st a n p after pass (read_over race.select (pit_at p st.pits) p ((s i).page after)) (own_state i o st a (ReadPit p ((s i).page after)) (ReindexRead n p after pass) tt h)
   holds_ok i o st a (ReindexBulk n p last pass outputs) b c h = bulk_holds race.select (race.settings i) (claimed o st.opened a) st _ a n p last pass outputs (bulk_over (at (meant st (s i).temp) st.indices) st (s i).temp (meant st (s i).temp) (creates outputs)).1
-      (own_phase i o st a (Bulk (s i).temp (creates outputs)) (ReindexBulk n p last pass outputs) tt h)
+      (own_state i o st a (Bulk (s i).temp (creates outputs)) (ReindexBulk n p last pass outputs) tt h)
   holds_ok i o st a (ReindexClose n p) b c h = bare race.select (race.settings i) (claimed o st.opened a) st _ a (ReindexClose n p) _ (bare_close race.select (race.settings i) (SetTempBlock n) (close_over (pit_at p st.pits) st p).1 tt)
   holds_ok i o st a (SetTempBlock n) b c h = bare race.select (race.settings i) (claimed o st.opened a) st _ a (SetTempBlock n) _ (bare_temp_block race.select (race.settings i) n (block_over (at (s i).temp st.indices) st (s i).temp).1)
   holds_ok i o st a (CloneTemp n) b c h = bare race.select (race.settings i) (claimed o st.opened a) st _ a (CloneTemp n) _ (bare_clone race.select (race.settings i) n (clone_over (at (s i).target st.indices) (at (s i).target st.aliases) (at (s i).temp st.indices) st (s i).temp (s i).target).1)
   holds_ok i o st a (OutdatedOpen finish) b c h = outdated_open_holds race.select (race.settings i) o st a finish (goal_of (s i) finish) (at (meant st (goal_of (s i) finish)) st.indices)
-  holds_ok i o st a (OutdatedRead finish p after) b c h = outdated_holds race.select (race.settings i) (claimed o st.opened a) st a finish p after (read_over race.select (pit_at p st.pits) p ((s i).outdated after)) (own_phase i o st a (ReadPit p ((s i).outdated after)) (OutdatedRead finish p after) tt h)
+  holds_ok i o st a (OutdatedRead finish p after) b c h = outdated_holds race.select (race.settings i) (claimed o st.opened a) st a finish p after (read_over race.select (pit_at p st.pits) p ((s i).outdated after)) (own_state i o st a (ReadPit p ((s i).outdated after)) (OutdatedRead finish p after) tt h)
   holds_ok i o st a (OutdatedBulk finish p last writes) b c h = absurd c
   holds_ok i o st a (OutdatedClose finish p) b c h = bare race.select (race.settings i) (claimed o st.opened a) st _ a (OutdatedClose finish p) _ (bare_close race.select (race.settings i) (after_outdated finish) (close_over (pit_at p st.pits) st p).1 (bare_after race.select (race.settings i) finish))
   holds_ok i o st a (MarkReady from) b c h = bare race.select (race.settings i) (claimed o st.opened a) st _ a (MarkReady from) _ (bare_mark race.select (race.settings i) (acted_answer st (act_all (Now st) (switch (s i) from))).1)
@@ -145,14 +145,14 @@ module _ {D Q C : Type 0} (race : Race D Q C) (cur : Text) (In : Settings D Q �
       some_pair : (x y : ℕ × ℕ) → Some x ≡ Some y → x ≡ y
       some_pair x y e = cc
 
-  spares_phase : (o : Owner) (st : Store D) (i j g : ℕ) (past other : Past D Q) (q : ℕ) (state : State D) → (i ≡ j → past ≡ other) → AskedOk o st i past (ClosePit q) → state_of g other.runs ≡ state → HeldAt j o st (j, g) state → Free j q state
-  spares_phase o st i j g past other q (ReindexRead n p after pass) same a e h = read_spared o i j g past other q p same a.1 a.2 a.3 h.0.0 (λ f. subst (Free j q) e f)
-  spares_phase o st i j g past other q (ReindexBulk n p last pass outputs) same a e h = read_spared o i j g past other q p same a.1 a.2 a.3 h.0.0 (λ f. subst (Free j q) e f)
-  spares_phase o st i j g past other q (OutdatedRead finish p after) same a e h = read_spared o i j g past other q p same a.1 a.2 a.3 h.0.0 (λ f. subst (Free j q) e f)
-  spares_phase o st i j g past other q _ same a e h = tt
+  spares_state : (o : Owner) (st : Store D) (i j g : ℕ) (past other : Past D Q) (q : ℕ) (state : State D) → (i ≡ j → past ≡ other) → AskedOk o st i past (ClosePit q) → state_of g other.runs ≡ state → HeldAt j o st (j, g) state → Free j q state
+  spares_state o st i j g past other q (ReindexRead n p after pass) same a e h = read_spared o i j g past other q p same a.1 a.2 a.3 h.0.0 (λ f. subst (Free j q) e f)
+  spares_state o st i j g past other q (ReindexBulk n p last pass outputs) same a e h = read_spared o i j g past other q p same a.1 a.2 a.3 h.0.0 (λ f. subst (Free j q) e f)
+  spares_state o st i j g past other q (OutdatedRead finish p after) same a e h = read_spared o i j g past other q p same a.1 a.2 a.3 h.0.0 (λ f. subst (Free j q) e f)
+  spares_state o st i j g past other q _ same a e h = tt
 
   spares : (o : Owner) (st : Store D) (i j g : ℕ) (past other : Past D Q) (ask : Request D Q) → (i ≡ j → past ≡ other) → AskedOk o st i past ask → HeldAt j o st (j, g) (state_of g other.runs) → Spares race.select (race.settings j) ask (state_of g other.runs)
-  spares o st i j g past other (ClosePit q) same a h = spares_phase o st i j g past other q (state_of g other.runs) same a refl h
+  spares o st i j g past other (ClosePit q) same a h = spares_state o st i j g past other q (state_of g other.runs) same a refl h
   spares o st i j g past other _ same a h = tt
 
   -- the pits that were claimed
@@ -184,9 +184,9 @@ module _ {D Q C : Type 0} (race : Race D Q C) (cur : Text) (In : Settings D Q �
   same_tag : (g tag : ℕ) → (g == tag) ≡ true → g ≡ tag
   same_tag g tag e = grind (arith, nat_tests)
 
-  unheard_phase : (g tag : ℕ) (runs : List (Run D)) → state_of g (record { tag = tag; state = state_of tag runs; heard = heard_of tag runs } ∷ runs) ≡ state_of g runs
+  unheard_state : (g tag : ℕ) (runs : List (Run D)) → state_of g (record { tag = tag; state = state_of tag runs; heard = heard_of tag runs } ∷ runs) ≡ state_of g runs
   unfolding state_of
-  unheard_phase g tag runs = by (g == tag) refl
+  unheard_state g tag runs = by (g == tag) refl
     where
       by : (b : Bool) → (g == tag) ≡ b → (if b then state_of tag runs else state_of g runs) ≡ state_of g runs
       by true e = ap (λ x. state_of x runs) (sym (same_tag g tag e))
@@ -217,9 +217,9 @@ module _ {D Q C : Type 0} (race : Race D Q C) (cur : Text) (In : Settings D Q �
   own_owned o st i Unheard past tag ask ok facts later a m =
       let info : AskedOk o st i past ask = made_asked o st i Unheard past tag ask a m in
       record {
-        starts = λ g. rw (unheard_phase g tag past.runs) (held_kept race.select (race.settings i) o o st (i, g) ask (state_of g past.runs) (λ p lt. refl) (spares o st i i g past past ask (λ e. refl) info (a.starts g)) (a.starts g));
-        cost = λ g. rw (unheard_phase g tag past.runs, unheard_count g tag past.runs) (costs_later i st (serve race.select st ask).0 later (heard_of g past.runs) (state_of g past.runs) (a.cost g));
-        asked = kept_asked o o st i past (past_after (s i) Unheard past tag ask (serve race.select st ask).1) ask (λ p lt. refl) (λ p g lt f. rw (unheard_phase g tag past.runs) f) a.asked info;
+        starts = λ g. rw (unheard_state g tag past.runs) (held_kept race.select (race.settings i) o o st (i, g) ask (state_of g past.runs) (λ p lt. refl) (spares o st i i g past past ask (λ e. refl) info (a.starts g)) (a.starts g));
+        cost = λ g. rw (unheard_state g tag past.runs, unheard_count g tag past.runs) (costs_later i st (serve race.select st ask).0 later (heard_of g past.runs) (state_of g past.runs) (a.cost g));
+        asked = kept_asked o o st i past (past_after (s i) Unheard past tag ask (serve race.select st ask).1) ask (λ p lt. refl) (λ p g lt f. rw (unheard_state g tag past.runs) f) a.asked info;
       }
   own_owned o st i Heard past tag ask ok facts later a m =
       record {
@@ -232,7 +232,7 @@ module _ {D Q C : Type 0} (race : Race D Q C) (cur : Text) (In : Settings D Q �
       info = made_asked o st i Heard past tag ask a m
 
       phase_ok : At i st (state_of tag past.runs)
-      phase_ok = every_phase (At i st) tag past.runs tt facts.runs
+      phase_ok = every_state (At i st) tag past.runs tt facts.runs
 
       holds : Holds race.select (race.settings i) (claimed o st.opened (i, tag)) st (serve race.select st ask).0 (i, tag) (state_of tag past.runs) (moved (s i) (state_of tag past.runs) (serve race.select st ask).1)
       holds = moved_holds i o st (i, tag) (state_of tag past.runs) ask ok phase_ok (a.starts tag) m.1

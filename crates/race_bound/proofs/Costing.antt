@@ -18,7 +18,7 @@ use Rattle.race_tables.proofs.Outputs.{Is}
 use Rattle.race_tables.proofs.Lists.{some_same, none_some}
 use Rattle.race_tables.proofs.Requests.{meant_itself}
 use Rattle.race_tables.proofs.Batches.{last_key_append, last_of_key}
-use Rattle.race_facts.proofs.Facts.{IsBlocked, Ground, SourceOf, StoreOk, Later, TempShut, Ready, FinishOk, PitFresh, PhaseOk, ground_later, blocked_later}
+use Rattle.race_facts.proofs.Facts.{IsBlocked, Ground, SourceOf, StoreOk, Later, TempShut, Ready, FinishOk, PitFresh, StateOk, ground_later, blocked_later}
 use Rattle.race_facts.proofs.Serving.{one_table}
 use Rattle.race_facts.proofs.Switching.{switch_of, install_of, Installing, installing, on_it, switch_now, switch_stuck}
 use Rattle.race_facts.proofs.Switching.Installing.{First, Repeated, Refuses}
@@ -29,7 +29,7 @@ module _ {D Q C : Type 0} (race : Race D Q C) (cur : Text) (In : Settings D Q �
   Ok st = StoreOk cur In Fresh Empty st
 
   abbrev At : Store D → State D → Type 0
-  At st state = PhaseOk cur In Fresh Empty v st state
+  At st state = StateOk cur In Fresh Empty v st state
 
   abbrev names : NamesApart cur In
   names = laws.names

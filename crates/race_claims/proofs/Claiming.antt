@@ -10,9 +10,9 @@ use Rattle.race_model.specs.Machines.End.{Fatal}
 use Rattle.race_model.specs.Machines.State.{Ended}
 use Rattle.race_model.specs.Worlds.Actor.{Instance}
 use Rattle.race_model.specs.Premises.{NamesApart, RaceLaws}
-use Rattle.race_facts.proofs.Racing.{every_phase, TraceFacts, PastFacts, place_at, trace_run}
+use Rattle.race_facts.proofs.Racing.{every_state, TraceFacts, PastFacts, place_at, trace_run}
 use Rattle.race_model.specs.Worlds.How.{Heard}
-use Rattle.race_facts.proofs.Facts.{StoreOk, PhaseOk}
+use Rattle.race_facts.proofs.Facts.{StoreOk, StateOk}
 use Rattle.race_facts.proofs.Opening.{opens_trace}
 use Rattle.race_claims.specs.Shown.{IsShown}
 use Rattle.race_claims.proofs.Showing.{cause_shown}
@@ -52,5 +52,5 @@ module _ {D Q C : Type 0} (race : Race D Q C) (cur : Text) (sets : List (Setting
         let a : TraceOk t = trace_run race cur In Fresh Empty Sound laws t0 j (starts instances scripts sound) r.0 in
         let may : MayInstance (race.settings i) Heard (Some past) e.tag e.request = subst (λ o. MayInstance (race.settings i) Heard o e.tag e.request) here (subst (λ h. MayInstance (race.settings i) h (nth t.pasts i) e.tag e.request) how (subst (λ x. MayMake race t x e.how e.tag e.request) actor r.1.0)) in
         cause_shown race cur In Fresh Empty Sound laws (race.settings i) (laws.runs i) (laws.not_outdated i) t.store (state_of e.tag past.runs) e.request cause a.store
-        (every_phase (PhaseOk cur In Fresh Empty (race.settings i) t.store) e.tag past.runs tt (place_at (PastFacts race cur In Fresh Empty Sound t.store) t.pasts i past a.pasts here).runs) may.1
+        (every_state (StateOk cur In Fresh Empty (race.settings i) t.store) e.tag past.runs tt (place_at (PastFacts race cur In Fresh Empty Sound t.store) t.pasts i past a.pasts here).runs) may.1
         (subst (λ reply. moved (race.settings i) (state_of e.tag past.runs) reply ≡ Ended (Fatal cause)) r.1.1 ends)

@@ -13,9 +13,10 @@ use Rattle.race_model.specs.Generations.{Generations, move}
 use Rattle.race_model.specs.History.{FoundSoFar, facts_of, found_after, facts_from}
 use Rattle.race_model.specs.Runs.{last_generation}
 use Rattle.race_model.specs.Premises.{NamesApart, RaceLaws, Paged}
-use Rattle.race_facts.proofs.Facts.{StoreOk, Later, PhaseOk}
-use Rattle.race_facts.proofs.Racing.{every_phase, TraceFacts, PastFacts, place_at, trace_step}
-use Rattle.race_history.proofs.Histories.{Shows, FoundOk, last_index, entry_leads, on_last, store_after}
+use Rattle.race_facts.proofs.Facts.{StoreOk, Later, StateOk}
+use Rattle.race_facts.proofs.Racing.{every_state, TraceFacts, PastFacts, place_at, trace_step}
+use Rattle.race_history.proofs.Histories.{Shows, FoundOk, last_index, on_last}
+use Rattle.race_history.proofs.Telling.{entry_leads, store_after}
 use Rattle.race_bound.proofs.Owning.{Owner}
 use Rattle.race_bound.proofs.Costing.{Cost}
 use Rattle.race_bound.proofs.Bounding.{Owned}
@@ -43,7 +44,7 @@ module _ {D Q C : Type 0} (race : Race D Q C) (cur : Text) (In : Settings D Q �
   Ok st = StoreOk cur In Fresh_docs Empty st
 
   abbrev At : Store D → State D → Type 0
-  At st state = PhaseOk cur In Fresh_docs Empty v st state
+  At st state = StateOk cur In Fresh_docs Empty v st state
 
   abbrev TraceOk : Trace D Q C → Type 0
   TraceOk t = TraceFacts race cur In Fresh_docs Empty Sound t
@@ -105,7 +106,7 @@ module _ {D Q C : Type 0} (race : Race D Q C) (cur : Text) (In : Settings D Q �
     ends : (w : Way) (gs' : Generations D) (f' : FoundSoFar) (o' : Owner) → Stand race cur In Fresh_docs Empty Sound laws version_in knows pages paged i tag find w gs' f' o' later → (past : Past D Q) → nth later.pasts i ≡ Some past → (Within : ℕ → Type 0) → ((k : ℕ) → BoundAt w later.store 14 k → Within k)
         → ((state_of tag past.runs ≡ Ended (End.Done v.target)) × Within (heard_of tag past.runs)) ⊎ ((ask : Request D Q) × (request v (state_of tag past.runs) ≡ Some ask) × Within (heard_of tag past.runs + 1))
     unfolding request
-    ends w gs' f' o' s past e Within within = by (state_of tag past.runs) (request v (state_of tag past.runs)) refl (s.good past e) ((s.owned i past e).cost tag) (every_phase (At later.store) tag past.runs tt (place_at (PastFacts race cur In Fresh_docs Empty Sound later.store) later.pasts i past s.facts.pasts e).runs)
+    ends w gs' f' o' s past e Within within = by (state_of tag past.runs) (request v (state_of tag past.runs)) refl (s.good past e) ((s.owned i past e).cost tag) (every_state (At later.store) tag past.runs tt (place_at (PastFacts race cur In Fresh_docs Empty Sound later.store) later.pasts i past s.facts.pasts e).runs)
       where
         k : ℕ
         k = heard_of tag past.runs

@@ -17,11 +17,12 @@ use Rattle.race_model.specs.History.{Fact, FoundSoFar, facts_of, found_after, fa
 use Rattle.race_model.specs.Runs.{last_generation, MayMove, EntryIs, fact_of}
 use Rattle.race_model.specs.Premises.{RaceLaws, Paged}
 use Rattle.race_tables.proofs.Lists.{some_same, every_nth}
-use Rattle.race_facts.proofs.Facts.{StoreOk, Later, PhaseOk}
+use Rattle.race_facts.proofs.Facts.{StoreOk, Later, StateOk}
 use Rattle.race_facts.proofs.Switching.{request_served}
-use Rattle.race_facts.proofs.Racing.{every_phase, TraceFacts, PastFacts, place_at, made_cond, no_instance, no_client, client_asks, client_served, trace_step}
+use Rattle.race_facts.proofs.Racing.{every_state, TraceFacts, PastFacts, place_at, made_cond, no_instance, no_client, client_asks, client_served, trace_step}
 use Rattle.race_history.proofs.Lining.{block_last_is, migrate_last, written_last}
-use Rattle.race_history.proofs.Histories.{Shows, LastOn, FoundOk, last_index, entry_leads, on_last, store_after}
+use Rattle.race_history.proofs.Histories.{Shows, LastOn, FoundOk, last_index, on_last}
+use Rattle.race_history.proofs.Telling.{entry_leads, store_after}
 use Rattle.race_history.proofs.Histories.LastOn.{No_last, The_last}
 use Rattle.race_bound.proofs.Owning.{Owner}
 use Rattle.race_bound.proofs.Costing.{Cost}
@@ -45,7 +46,7 @@ module _ {D Q C : Type 0} (race : Race D Q C) (cur : Text) (In : Settings D Q �
   Ok st = StoreOk cur In Fresh_docs Empty st
 
   abbrev At : Store D → State D → Type 0
-  At st state = PhaseOk cur In Fresh_docs Empty v st state
+  At st state = StateOk cur In Fresh_docs Empty v st state
 
   abbrev TraceOk : Trace D Q C → Type 0
   TraceOk t = TraceFacts race cur In Fresh_docs Empty Sound t
@@ -198,7 +199,7 @@ module _ {D Q C : Type 0} (race : Race D Q C) (cur : Text) (In : Settings D Q �
           (subst (λ x. Cost race cur In Fresh_docs Empty Sound laws pages v is_in (laws.not_outdated i) (paged i) x (heard_of tag next.runs) (state_of tag next.runs)) is own_cost)) in
           subst (λ k. GoodAt w st' k (state_of tag next.runs)) (sym heard) (subst (GoodAt w st' (heard_of tag past.runs + 1)) (sym state)
           (own_good race cur In Fresh_docs Empty Sound laws version_in knows pages paged i tag find w t.store (heard_of tag past.runs) (state_of tag past.runs) ask s.facts.store
-          (every_phase (At t.store) tag past.runs tt (place_at (PastFacts race cur In Fresh_docs Empty Sound t.store) t.pasts i past s.facts.pasts e).runs) ok (own_request t actor how own ask past a h g e m)
+          (every_state (At t.store) tag past.runs tt (place_at (PastFacts race cur In Fresh_docs Empty Sound t.store) t.pasts i past s.facts.pasts e).runs) ok (own_request t actor how own ask past a h g e m)
           (s.good past e) (named_now w gs f o t s) (clear a h g) ((s.owned i past e).cost tag) cost' later))
 
   pub step : (w : Way) → OkWay w → (gs : Generations D) (f : FoundSoFar) (o : Owner) (t : Trace D Q C) (e : Entry D Q) → Stand w gs f o t → MayCome race t e → OnlyFor w (facts_of cur version_in f e.request e.reply) → (IsOwn i tag e → ClearAt w t.store e.request)
@@ -209,16 +210,19 @@ module _ {D Q C : Type 0} (race : Race D Q C) (cur : Text) (In : Settings D Q �
       let r = entry_owned race cur In Fresh_docs Empty Sound laws pages paged o t e.actor e.how e.tag e.request s.facts s.owned c.0 in
       let is : (follow_over race t e.actor e.how e.tag e.request (serve race.select t.store e.request).1 (serve race.select t.store e.request).0).store ≡ (serve race.select t.store e.request).0 = store_after race cur In Fresh_docs Empty Sound laws version_in t e.actor e.how e.tag e.request (serve race.select t.store e.request).1 (serve race.select t.store e.request).0 in
       let same_trace : follow_over race t e.actor e.how e.tag e.request (serve race.select t.store e.request).1 (serve race.select t.store e.request).0 ≡ followed race t e = ap (λ reply. follow_over race t e.actor e.how e.tag e.request reply (serve race.select t.store e.request).0) (sym c.1) in
-      let here = good_after w ok gs f o r.0 t e.actor e.how e.tag e.request s c.0 (λ a h g. clear (a, h, g)) r.1 is in
-      (move gs l.m, r.0, record {
-        shows = subst (λ (x : Trace D Q C). Shows cur In (move gs l.m) x.store) same_trace (subst (Shows cur In (move gs l.m)) (sym is) l.shows);
-        found = l.found;
-        facts = trace_step race cur In Fresh_docs Empty Sound laws t e s.facts c;
-        owned = subst (Holds r.0) same_trace r.1;
-        named = entry_named w gs t.store f.place e.actor e l.m s.shows.last l.may (subst (OnlyFor w) l.fact only) s.named;
-        good = subst (λ (x : Trace D Q C). (past : Past D Q) → nth x.pasts i ≡ Some past → GoodAt w x.store (heard_of tag past.runs) (state_of tag past.runs)) same_trace
-            (λ past there. subst (λ x. GoodAt w x (heard_of tag past.runs) (state_of tag past.runs)) (sym is) (here past there));
-      })
+      let here = good_after w ok gs f o r.0 t e.actor e.how e.tag e.request s c.0 (λ a h g. clear (a, h, g)) r.1 is in (
+        move gs l.m,
+        r.0,
+        record {
+          shows = subst (λ (x : Trace D Q C). Shows cur In (move gs l.m) x.store) same_trace (subst (Shows cur In (move gs l.m)) (sym is) l.shows);
+          found = l.found;
+          facts = trace_step race cur In Fresh_docs Empty Sound laws t e s.facts c;
+          owned = subst (Holds r.0) same_trace r.1;
+          named = entry_named w gs t.store f.place e.actor e l.m s.shows.last l.may (subst (OnlyFor w) l.fact only) s.named;
+          good = subst (λ (x : Trace D Q C). (past : Past D Q) → nth x.pasts i ≡ Some past → GoodAt w x.store (heard_of tag past.runs) (state_of tag past.runs)) same_trace
+              (λ past there. subst (λ x. GoodAt w x (heard_of tag past.runs) (state_of tag past.runs)) (sym is) (here past there));
+        },
+      )
 
   -- along a journal
   pub along : (w : Way) → OkWay w → (gs : Generations D) (f : FoundSoFar) (o : Owner) (t : Trace D Q C) (j : List (Entry D Q)) → Stand w gs f o t → Conforms race t j → OnlyFor w (facts_from cur version_in f j) → AtOwn race i tag (ClearAt w) t j
@@ -263,13 +267,16 @@ module _ {D Q C : Type 0} (race : Race D Q C) (cur : Text) (In : Settings D Q �
       let is : (follow_over race t e.actor e.how e.tag e.request (serve race.select t.store e.request).1 (serve race.select t.store e.request).0).store ≡ (serve race.select t.store e.request).0 = store_after race cur In Fresh_docs Empty Sound laws version_in t e.actor e.how e.tag e.request (serve race.select t.store e.request).1 (serve race.select t.store e.request).0 in
       let same_trace : follow_over race t e.actor e.how e.tag e.request (serve race.select t.store e.request).1 (serve race.select t.store e.request).0 ≡ followed race t e = ap (λ reply. follow_over race t e.actor e.how e.tag e.request reply (serve race.select t.store e.request).0) (sym c.1) in
       let asks : request v Init ≡ Some e.request = subst (λ x. request v x ≡ Some e.request) init (own_request t e.actor e.how e.tag e.request past own.0 own.1 own.2 there c.0) in
-      let good_next = first_good w t e past own there init none (looks_first e.request asks) good in
-      (move gs l.m, r.0, record {
-        shows = subst (λ (x : Trace D Q C). Shows cur In (move gs l.m) x.store) same_trace (subst (Shows cur In (move gs l.m)) (sym is) l.shows);
-        found = l.found;
-        facts = trace_step race cur In Fresh_docs Empty Sound laws t e facts c;
-        owned = subst (Holds r.0) same_trace r.1;
-        named = entry_named w gs t.store f.place e.actor e l.m shows.last l.may (subst (OnlyFor w) l.fact only) named;
-        good = subst (λ (x : Trace D Q C). (next : Past D Q) → nth x.pasts i ≡ Some next → GoodAt w x.store (heard_of tag next.runs) (state_of tag next.runs)) same_trace
-            (λ next g. subst (λ x. GoodAt w x (heard_of tag next.runs) (state_of tag next.runs)) (sym is) (good_next next g));
-      })
+      let good_next = first_good w t e past own there init none (looks_first e.request asks) good in (
+        move gs l.m,
+        r.0,
+        record {
+          shows = subst (λ (x : Trace D Q C). Shows cur In (move gs l.m) x.store) same_trace (subst (Shows cur In (move gs l.m)) (sym is) l.shows);
+          found = l.found;
+          facts = trace_step race cur In Fresh_docs Empty Sound laws t e facts c;
+          owned = subst (Holds r.0) same_trace r.1;
+          named = entry_named w gs t.store f.place e.actor e l.m shows.last l.may (subst (OnlyFor w) l.fact only) named;
+          good = subst (λ (x : Trace D Q C). (next : Past D Q) → nth x.pasts i ≡ Some next → GoodAt w x.store (heard_of tag next.runs) (state_of tag next.runs)) same_trace
+              (λ next g. subst (λ x. GoodAt w x (heard_of tag next.runs) (state_of tag next.runs)) (sym is) (good_next next g));
+        },
+      )

@@ -50,6 +50,8 @@ use Rattle.race_follow.proofs.Following.{worlds_kept}
 use Rattle.race_claims.proofs.OneVersion.{OpeningSet, opening_one, nobody_fails}
 use Rattle.race_claims.proofs.OneClaim.{OneTrace, one_run, one_world}
 use Rattle.std.proofs.Common.{false, ◌∙◌}
+use Rattle.race_claims.specs.Unfailing.{HasFailed}
+use Rattle.race_claims.proofs.Unfailing.{unfailing}
 
 -- Where a start ends as fatal at an entry, the store shows the cause at that moment; the causes VersionAliasMissing, LegacyIndex, NameTaken and OutdatedId never come.
 pub causes_are_shown : {D Q C : Type 0} → (scenario : Scenario D Q C) (is_fresh : Settings D Q → Text → D → Bool) (is_sound : C → Bool) (journal : List (Entry D Q)) (e : Entry D Q) → IsFair scenario is_fresh is_sound → IsJournal scenario (journal ++ e ∷ []) → (i : ℕ) (past : Past D Q) (cause : Cause) → e.actor ≡ Instance i → e.how ≡ Heard → nth (trace_after scenario journal).pasts i ≡ Some past → moved (scenario.race.settings i) (state_of e.tag past.runs) e.reply ≡ Ended (Fatal cause) → IsShown scenario.race.select scenario.current (scenario.race.settings i) (trace_after scenario journal).store (state_of e.tag past.runs) cause
@@ -144,3 +146,13 @@ worlds_of_one_version_fail_by_documents s is_fresh is_sound v events fair single
     let k = one_world s.race s.current (λ u. Has u s.sets) (λ u raw doc. IsTrue (is_fresh u raw doc)) (IsEmptyOpening s.opening) (λ x. IsTrue (is_sound x)) fair.laws v single.all (OpeningSet s.opening) (firsts_below v s.opening single.above) (firsts_one s.opening) (firsts_none s.opening)
     (trace_after s (world_after s events).journal) (world_after s events) (one_after s is_fresh is_sound v fair single (world_after s events).journal w.conforms) w.agrees i node m cause there is ends in
     (k.0, firsts_some s.opening k.1 k.2)
+
+-- The same of a world, for a start none of whose sends failed.
+pub unhindered_machines_end_as_done : {D Q C : Type 0} → (scenario : Scenario D Q C) (is_fresh : Settings D Q → Text → D → Bool) (is_sound : C → Bool) (version_in : Text → Option Text) (pages : Rows D → ℕ) (events : List Event) (before after : List (Entry D Q)) (first : Entry D Q) (i : ℕ) (start : Past D Q) (node : Node D Q) (m : Machine D) → IsFair scenario is_fresh is_sound → ((v : Settings D Q) → Has v scenario.sets → (version : Text) × (version_in v.target ≡ Some version)) → ((j : ℕ) → Paged scenario.race.select (scenario.race.settings j) pages) → FindsUnknown scenario.race.select (scenario.race.settings i) → nth (world_after scenario events).nodes i ≡ Some node → node.machine ≡ Some m → (HasFailed node.starts node.sent → ⊥) → (world_after scenario events).journal ≡ before ++ first ∷ after → IsOwn i node.starts first → nth (trace_after scenario before).pasts i ≡ Some start → state_of node.starts start.runs ≡ Init → IsUnhindered scenario.race i node.starts (scenario.race.settings i) (facts_since scenario version_in before (first ∷ after)) (trace_after scenario before) (first ∷ after) (at scenario.current (trace_after scenario before).store.aliases) → (heard : ℕ) × GoesWell pages (scenario.race.settings i) (world_after scenario events).store (at scenario.current (trace_after scenario before).store.aliases) heard m.state
+unhindered_machines_end_as_done s is_fresh is_sound version_in pages events before after first i start node m fair knows paged find there is unfailed journal own begun init unhindered =
+    let w = worlds_kept s.race (opening_store s.current s.opening) s.instances s.scripts events in
+    let told = unfailing s.race (opening_store s.current s.opening) s.instances s.scripts events (trace_after s (world_after s events).journal) w.agrees i node m there is unfailed in
+    let goes = unhindered_starts_end_as_done s is_fresh is_sound version_in pages before after first i node.starts start told.0 fair knows paged find (subst (IsJournal s) journal w.conforms) own begun init unhindered
+    (subst (λ j. nth (trace_after s j).pasts i ≡ Some told.0) journal told.1) in
+    (heard_of node.starts told.0.runs, subst (GoesWell pages (s.race.settings i) (world_after s events).store (at s.current (trace_after s before).store.aliases) (heard_of node.starts told.0.runs)) told.2
+    (subst (λ x. GoesWell pages (s.race.settings i) x (at s.current (trace_after s before).store.aliases) (heard_of node.starts told.0.runs) (state_of node.starts told.0.runs)) (subst (λ j. (trace_after s j).store ≡ (world_after s events).store) journal w.agrees.store) goes))

@@ -9,4 +9,5 @@ pub mod Going
 pub mod Ending
 pub mod OneVersion
 pub mod OneClaim
+pub mod Unfailing
 pub mod Laws

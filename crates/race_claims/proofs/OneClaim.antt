@@ -19,9 +19,9 @@ use Rattle.race_tables.proofs.Lists.{none_some, some_same, every_nth}
 use Rattle.race_tables.proofs.Outputs.{MayFail}
 use Rattle.race_tables.proofs.Batches.{batch_bad}
 use Rattle.race_follow.proofs.Following.{places_at, NodeAgrees, Agrees}
-use Rattle.race_facts.proofs.Facts.{Current, StoreOk, Cond, PhaseOk}
+use Rattle.race_facts.proofs.Facts.{Current, StoreOk, Cond, StateOk}
 use Rattle.race_facts.proofs.Facts.Current.{Nowhere, On}
-use Rattle.race_facts.proofs.Racing.{every_phase, TraceFacts, PastFacts, place_at, made_cond, no_instance, no_client, client_asks, trace_step}
+use Rattle.race_facts.proofs.Racing.{every_state, TraceFacts, PastFacts, place_at, made_cond, no_instance, no_client, client_asks, trace_step}
 use Rattle.race_claims.specs.Shown.{LeftBy, IsShown}
 use Rattle.race_claims.specs.OneVersion.{IsByDocuments}
 use Rattle.race_claims.proofs.Showing.{cause_shown}
@@ -59,7 +59,7 @@ module _ {D Q C : Type 0} (race : Race D Q C) (cur : Text) (In : Settings D Q �
   Ok st = StoreOk cur In Fresh Empty st
 
   abbrev At : Store D → State D → Type 0
-  At st state = PhaseOk cur In Fresh Empty v st state
+  At st state = StateOk cur In Fresh Empty v st state
 
   abbrev One : Store D → Type 0
   One st = OneOk race cur In Fresh Empty Sound laws v is_in Firsts st
@@ -156,8 +156,8 @@ module _ {D Q C : Type 0} (race : Race D Q C) (cur : Text) (In : Settings D Q �
           let may : MayInstance (race.settings i) how (nth t.pasts i) own ask = subst (λ y. MayMake race t y how own ask) x m in
           let here : MayInstance (race.settings i) Heard (Some past) own ask = subst (λ o. MayInstance (race.settings i) Heard o own ask) e (subst (λ y. MayInstance (race.settings i) y (nth t.pasts i) own ask) h may) in
           let q : request (race.settings i) (state_of tag past.runs) ≡ Some ask = subst (λ y. request (race.settings i) (state_of y past.runs) ≡ Some ask) g here.1 in
-          let c : PhaseOk cur In Fresh Empty (race.settings i) t.store (state_of tag past.runs) = every_phase (PhaseOk cur In Fresh Empty (race.settings i) t.store) tag past.runs tt (place_at (PastFacts race cur In Fresh Empty Sound t.store) t.pasts i past a.facts.pasts e).runs in
-          fails_by t.store (state_of tag past.runs) ask cause a.facts.store a.store (subst (λ s. PhaseOk cur In Fresh Empty s t.store (state_of tag past.runs)) (all i) c)
+          let c : StateOk cur In Fresh Empty (race.settings i) t.store (state_of tag past.runs) = every_state (StateOk cur In Fresh Empty (race.settings i) t.store) tag past.runs tt (place_at (PastFacts race cur In Fresh Empty Sound t.store) t.pasts i past a.facts.pasts e).runs in
+          fails_by t.store (state_of tag past.runs) ask cause a.facts.store a.store (subst (λ s. StateOk cur In Fresh Empty s t.store (state_of tag past.runs)) (all i) c)
           (subst (λ s. request s (state_of tag past.runs) ≡ Some ask) (all i) q) (subst (λ s. moved s (state_of tag past.runs) (serve race.select t.store ask).1 ≡ Ended (Fatal cause)) (all i) (sym state ∙ ends))
 
   one_step : (t : Trace D Q C) (e : Entry D Q) → OneTrace t → MayCome race t e → OneTrace (followed race t e)

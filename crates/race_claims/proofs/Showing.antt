@@ -14,43 +14,18 @@ use Rattle.race_model.specs.Machines.State.{Init, CreateNewTarget, CheckUnknown,
 use Rattle.race_model.specs.Worlds.{Race}
 use Rattle.race_model.specs.Sorted.{IsSorted, Each}
 use Rattle.race_tables.proofs.Keys.{same_refl}
-use Rattle.base_model.specs.Outcomes.Outcome.{Removed, Unknown, TooNew, Corrupt, Outputs}
-use Rattle.race_model.specs.Migrated.{outs, IsGoodOutcome, NoneHas, AllApart, IsClean}
-use Rattle.race_tables.proofs.Outputs.{outs_append, Is, IsGood, AllGood, Lacks, Distinct}
+use Rattle.race_model.specs.Migrated.{outs, AllApart, IsClean}
+use Rattle.race_tables.proofs.Outputs.{outs_append, Is, AllGood}
 use Rattle.race_tables.proofs.Completing.{distinct_left, clean_batch}
 use Rattle.race_tables.proofs.Lists.{some_same, none_some}
 use Rattle.race_tables.proofs.Requests.{meant_itself, shown_of, at_seen, at_flags}
 use Rattle.race_model.specs.Premises.{NamesApart, RaceLaws}
 use Rattle.race_claims.specs.Shown.{IsShown}
-use Rattle.race_facts.proofs.Facts.{Installed, Ground, SourceOf, Read, Current, StoreOk, PitOk, Ready, PitFresh, PhaseOk}
+use Rattle.race_facts.proofs.Facts.{Installed, Ground, SourceOf, Read, Current, StoreOk, PitOk, Ready, PitFresh, StateOk}
 use Rattle.race_facts.proofs.Facts.Current.{Nowhere, On}
 use Rattle.race_facts.proofs.Switching.{switch_of, install_of, Installing, installing, on_it, switch_now, switch_stuck}
 use Rattle.race_facts.proofs.Switching.Installing.{First, Repeated, Refuses}
 use Rattle.race_facts.proofs.Moving.{is_on_false, not_on}
-use Rattle.base_model.specs.Outcomes.{Outcome}
-
--- clean, in the words of the proofs
-good_again : {D : Type 0} (o : Outcome D) → IsGoodOutcome o → IsGood o
-good_again Removed g = g
-good_again (Outputs os) g = g
-good_again Unknown g = absurd g
-good_again TooNew g = absurd g
-good_again Corrupt g = absurd g
-
-all_good : {D Q : Type 0} (s : Settings D Q) (rows : Rows D) → Each (λ raw doc. IsGoodOutcome (s.outcome raw doc)) rows → AllGood s rows
-unfolding Each
-all_good s [] a = tt
-all_good s (r ∷ rows) a = (good_again (s.outcome r.0 r.1.doc) a.0, all_good s rows a.1)
-
-all_lacks : {D : Type 0} (raw : Text) (os : List (Text × D)) → NoneHas raw os → Lacks raw os
-unfolding NoneHas Lacks
-all_lacks raw [] a = tt
-all_lacks raw (o ∷ os) a = (a.0, all_lacks raw os a.1)
-
-all_distinct : {D : Type 0} (os : List (Text × D)) → AllApart os → Distinct os
-unfolding AllApart Distinct
-all_distinct [] a = tt
-all_distinct (o ∷ os) a = (all_lacks o.0 os a.0, all_distinct os a.1)
 
 each_left : {D : Type 0} (P : Text → D → Type 0) (xs ys : Rows D) → Each P (xs ++ ys) → Each P xs
 unfolding Each
@@ -68,7 +43,7 @@ module _ {D Q C : Type 0} (race : Race D Q C) (cur : Text) (In : Settings D Q �
   Ok st = StoreOk cur In Fresh Empty st
 
   abbrev At : Store D → State D → Type 0
-  At st state = PhaseOk cur In Fresh Empty v st state
+  At st state = StateOk cur In Fresh Empty v st state
 
   abbrev names : NamesApart cur In
   names = laws.names
@@ -156,9 +131,9 @@ module _ {D Q C : Type 0} (race : Race D Q C) (cur : Text) (In : Settings D Q �
       no_bad : (front : Rows D) → F.rows ≡ r.before ++ (front ++ back) → (cause : Cause) → batch v pass front ≡ Bad cause → IsClean v F.rows → ⊥
       no_bad front e cause q clean =
           let rows_clean : IsClean v (r.before ++ (front ++ back)) = subst (IsClean v) e clean in
-          let good : AllGood v front = each_left _ front back (each_right _ r.before (front ++ back) (all_good v (r.before ++ (front ++ back)) rows_clean.0)) in
-          let all_apart : Distinct (outs v r.before ++ (outs v front ++ outs v back)) = subst (λ z. Distinct (outs v r.before ++ z)) (outs_append v front back) (subst Distinct (outs_append v r.before (front ++ back)) (all_distinct (outs v (r.before ++ (front ++ back))) rows_clean.1)) in
-          let some_apart : Distinct (outs v r.before ++ outs v front) = distinct_left (outs v r.before ++ outs v front) (outs v back) (subst Distinct (sym (append_assoc (outs v r.before) (outs v front) (outs v back))) all_apart) in
+          let good : AllGood v front = each_left _ front back (each_right _ r.before (front ++ back) rows_clean.0) in
+          let all_apart : AllApart (outs v r.before ++ (outs v front ++ outs v back)) = subst (λ z. AllApart (outs v r.before ++ z)) (outs_append v front back) (subst AllApart (outs_append v r.before (front ++ back)) rows_clean.1) in
+          let some_apart : AllApart (outs v r.before ++ outs v front) = distinct_left (outs v r.before ++ outs v front) (outs v back) (subst AllApart (sym (append_assoc (outs v r.before) (outs v front) (outs v back))) all_apart) in
           let made = clean_batch v pass (outs v r.before) front r.exact good some_apart in
           let x : Good made.0 made.1 ≡ Bad cause = sym made.2 ∙ q in
           cc

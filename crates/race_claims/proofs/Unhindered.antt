@@ -13,7 +13,7 @@ use Rattle.race_model.specs.Worlds.{Race}
 use Rattle.race_model.specs.Migrated.{IsClean}
 use Rattle.race_model.specs.Premises.{NamesApart, RaceLaws, Paged}
 use Rattle.race_tables.proofs.Lists.{none_some, some_same}
-use Rattle.race_facts.proofs.Facts.{Installed, SourceOf, StoreOk, Later, PhaseOk}
+use Rattle.race_facts.proofs.Facts.{Installed, SourceOf, StoreOk, Later, StateOk}
 use Rattle.race_facts.proofs.Switching.{switch_of, install_of, Installing, installing, on_it, switch_now}
 use Rattle.race_facts.proofs.Switching.Installing.{First, Repeated, Refuses}
 use Rattle.race_bound.proofs.Costing.{Of, Cost, of_later, of_more}
@@ -40,7 +40,7 @@ module _ {D Q C : Type 0} (race : Race D Q C) (cur : Text) (In : Settings D Q �
   Ok st = StoreOk cur In Fresh_docs Empty st
 
   abbrev At : Store D → State D → Type 0
-  At st state = PhaseOk cur In Fresh_docs Empty v st state
+  At st state = StateOk cur In Fresh_docs Empty v st state
 
   abbrev OfSource : Store D → Text → ℕ → ℕ → Type 0
   OfSource st n c k = Of race cur In Fresh_docs Empty Sound laws pages v is_in (laws.not_outdated i) (paged i) st n c k

@@ -10,6 +10,7 @@ abbrev pub IsAbove : {D Q : Type 0} → Settings D Q → Opening D Q → Type 0
 IsAbove v NoGeneration = Unit {0}
 IsAbove v (OneGeneration first table) = (v.is_later first.target ≡ false) × (v.is_same first.target ≡ false)
 
+-- every instance is of the set v, above the opening
 pub record IsOneVersion {D Q C : Type 0} (scenario : Scenario D Q C) (v : Settings D Q) : Type 0 where
   pub all : (i : ℕ) → scenario.race.settings i ≡ v
   pub above : IsAbove v scenario.opening

@@ -59,6 +59,7 @@ FindsUnknown select v = (rows : Rows _) → Each (λ raw doc. IsGoodOutcome (v.o
 abbrev pub IsWithinPages : {D : Type 0} → (pages : Rows D → ℕ) → Store D → Text → ℕ → Type 0
 IsWithinPages pages st s k = (k ≤ 14) ⊎ ((index : Index _) × (at s st.indices ≡ Some index) × (index.blocked ≡ true) × (k ≤ 14 + 2 * pages index.table.rows))
 
+-- the bound, by the index that the current alias named at the first entry
 abbrev pub IsWithin : {D Q : Type 0} → (pages : Rows D → ℕ) → Settings D Q → Store D → Option Text → ℕ → Type 0
 IsWithin pages v st None k = k ≤ 14
 IsWithin pages v st (Some s) k = ((s ≡ v.target) × (k ≤ 14)) ⊎ IsWithinPages pages st s k

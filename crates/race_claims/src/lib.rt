@@ -16,6 +16,7 @@ ghost use Rattle.race_model.specs.Openings.Opening.{NoGeneration};
 ghost use Rattle.race_model.specs.Premises.{IsFair, Paged};
 ghost use Rattle.race_claims.specs.Shown.{IsShown};
 ghost use Rattle.race_claims.specs.OneVersion.{IsOneVersion, IsByDocuments};
+ghost use Rattle.race_claims.specs.Unfailing.{HasFailed};
 ghost use Rattle.race_claims.specs.Unhindered.{IsOwn, FindsUnknown, IsUnhindered, GoesWell};
 
 /// Where a start ends as fatal at an entry, the store shows the cause at that moment; the causes
@@ -63,4 +64,18 @@ pub fn worlds_of_one_version_fail_by_documents<D, Q, C>()
         IsFair scenario is_fresh is_sound → IsOneVersion scenario v →
         (i : ℕ) (node : Node D Q) (m : Machine D) (cause : Cause) → nth (world_after scenario events).nodes i ≡ Some node → node.machine ≡ Some m → m.state ≡ Ended (Fatal cause) →
         IsByDocuments cause × (scenario.opening ≢ NoGeneration) }
+{}
+
+/// The same of a world, for the start of an instance none of whose sends failed: its machine is done
+/// with its version's one target, or has a further request within the bound.
+pub fn unhindered_machines_end_as_done<D, Q, C>()
+    ensures { (scenario : Scenario D Q C) (is_fresh : Settings D Q → Text → D → Bool) (is_sound : C → Bool) (version_in : Text → Option Text) (pages : Rows D → ℕ)
+        (events : List Event) (before after : List (Entry D Q)) (first : Entry D Q) (i : ℕ) (start : Past D Q) (node : Node D Q) (m : Machine D) →
+        IsFair scenario is_fresh is_sound → ((v : Settings D Q) → Has v scenario.sets → (version : Text) × (version_in v.target ≡ Some version)) →
+        ((j : ℕ) → Paged scenario.race.select (scenario.race.settings j) pages) → FindsUnknown scenario.race.select (scenario.race.settings i) →
+        nth (world_after scenario events).nodes i ≡ Some node → node.machine ≡ Some m → (HasFailed node.starts node.sent → ⊥) →
+        (world_after scenario events).journal ≡ before ++ first ∷ after →
+        IsOwn i node.starts first → nth (trace_after scenario before).pasts i ≡ Some start → state_of node.starts start.runs ≡ Init →
+        IsUnhindered scenario.race i node.starts (scenario.race.settings i) (facts_since scenario version_in before (first ∷ after)) (trace_after scenario before) (first ∷ after) (at scenario.current (trace_after scenario before).store.aliases) →
+        (heard : ℕ) × GoesWell pages (scenario.race.settings i) (world_after scenario events).store (at scenario.current (trace_after scenario before).store.aliases) heard m.state }
 {}

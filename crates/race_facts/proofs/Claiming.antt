@@ -20,11 +20,11 @@ use Rattle.race_model.specs.Openings.{Opening, opening_store}
 use Rattle.race_model.specs.Openings.Opening.{NoGeneration, OneGeneration}
 use Rattle.race_model.specs.Premises.{Paged, NamesApart, RaceLaws}
 use Rattle.race_tables.proofs.Outputs.{Is}
-use Rattle.race_facts.proofs.Racing.{every_phase, TraceFacts, PastFacts, EachPlace, place_at, made_cond, no_instance, trace_step, trace_run}
+use Rattle.race_facts.proofs.Racing.{every_state, TraceFacts, PastFacts, EachPlace, place_at, made_cond, no_instance, trace_step, trace_run}
 use Rattle.race_follow.proofs.Following.{places_at, NodeAgrees, Agrees, worlds_kept}
 use Rattle.race_model.specs.Worlds.How.{Heard}
 use Rattle.race_model.specs.Runs.{last_generation, IsRun}
-use Rattle.race_facts.proofs.Facts.{Installed, NotYet, StoreOk, Cond, Other, CauseOk, EndOk, PhaseOk}
+use Rattle.race_facts.proofs.Facts.{Installed, NotYet, StoreOk, Cond, Other, CauseOk, EndOk, StateOk}
 use Rattle.race_facts.proofs.Facts.Current.{Nowhere, On}
 use Rattle.race_facts.proofs.Facts.Cond.{Any_ping, Any_state, Any_open, Any_read, Any_close, Any_get, Any_search, Makes_temp, Makes_target, Blocks_source, Blocks_temp, Copies, Writes, Switches, Installs}
 use Rattle.race_facts.proofs.Facts.{SourceOf, TargetOk}
@@ -87,7 +87,7 @@ module _ {D Q C : Type 0} (race : Race D Q C) (cur : Text) (sets : List (Setting
     told_end t w i node m end a g n e f q =
         let told = places_at (NodeAgrees race) t.pasts w.nodes i node g.nodes e in
         elim (told.2.state m f) [
-          | inl same ↦ subst (PhaseOk cur In Fresh Empty (race.settings i) t.store) (same ∙ q) (every_phase (PhaseOk cur In Fresh Empty (race.settings i) t.store) node.starts told.0.runs tt (place_at (PastFacts race cur In Fresh Empty Sound t.store) t.pasts i told.0 a.pasts told.1).runs)
+          | inl same ↦ subst (StateOk cur In Fresh Empty (race.settings i) t.store) (same ∙ q) (every_state (StateOk cur In Fresh Empty (race.settings i) t.store) node.starts told.0.runs tt (place_at (PastFacts race cur In Fresh Empty Sound t.store) t.pasts i told.0 a.pasts told.1).runs)
           | inr gave ↦ absurd (n gave.0 gave.1 (let x : Ended end ≡ Ended (GaveUp gave.0 gave.1) = sym q ∙ gave.2 in cc))
         ]
 

@@ -9,11 +9,11 @@ use Rattle.race_model.specs.Machines.Cause.{UnknownObjects, CorruptObjects, Newe
 use Rattle.race_model.specs.Machines.End.{Fatal, GaveUp}
 use Rattle.race_model.specs.Machines.Finish.{Stands, Switch}
 use Rattle.race_model.specs.Machines.State.{Init, CreateNewTarget, CheckUnknown, SetSourceBlock, CreateTemp, ReindexOpen, ReindexRead, ReindexBulk, ReindexClose, SetTempBlock, CloneTemp, OutdatedOpen, OutdatedRead, OutdatedBulk, OutdatedClose, MarkReady, MarkReadyConflict, Ended}
-use Rattle.race_model.specs.Migrated.{outs}
+use Rattle.race_model.specs.Migrated.{outs, AllApart}
 use Rattle.race_model.specs.Sorted.{IsSorted, Each, last_key}
 use Rattle.race_tables.proofs.Keys.{NoneOn}
 use Rattle.race_tables.proofs.Tables.{Only, Holds, AllHas, IsIn, holds_more}
-use Rattle.race_tables.proofs.Outputs.{Is, Clean, Whole, AllGood, Distinct, PassOf}
+use Rattle.race_tables.proofs.Outputs.{Is, Clean, Whole, AllGood, PassOf}
 use Rattle.race_tables.proofs.Lists.{none_some}
 use Rattle.race_tables.proofs.Completing.{Exact}
 use Rattle.race_model.specs.Premises.{NotBelow}
@@ -90,7 +90,7 @@ pub record Read {D Q : Type 0} (v : Settings D Q) (F : Table D) (after : Option 
   pub after_is : after ≡ last_key None before
   pub outputs : outs v before ≡ done ++ pending
   pub good : AllGood v before
-  pub apart : Distinct (outs v before)
+  pub apart : AllApart (outs v before)
   pub known : PassOf pass (outs v before)
   pub exact : Exact pass (outs v before)
 
@@ -235,25 +235,25 @@ module _ {D Q : Type 0} (cur : Text) (In : Settings D Q → Type 0) (Fresh : Set
   Passed v st = Empty ⊎ ((n : Text) × Ground In v st.aliases n × (at cur st.aliases ≢ Some n))
 
   -- what holds where a machine of the set v is in this state
-  abbrev pub PhaseOk : Settings D Q → Store D → State D → Type 0
-  PhaseOk v st Init = Unit {0}
-  PhaseOk v st CreateNewTarget = Empty
-  PhaseOk v st (CheckUnknown n) = Ground In v st.aliases n
-  PhaseOk v st (SetSourceBlock n) = Ground In v st.aliases n
-  PhaseOk v st (CreateTemp n) = (F : Table D) × SourceOf In v st n F
-  PhaseOk v st (ReindexOpen n) = (F : Table D) × SourceOf In v st n F × Wrote v st n []
-  PhaseOk v st (ReindexRead n p after pass) = (F : Table D) × SourceOf In v st n F × PitOk st p F.rows × (done : List (Text × D)) × Read v F after pass done [] × Wrote v st n done
-  PhaseOk v st (ReindexBulk n p last pass outputs) = (F : Table D) × SourceOf In v st n F × PitOk st p F.rows × (done : List (Text × D)) × Read v F (Some last) pass done outputs × Wrote v st n done
-  PhaseOk v st (ReindexClose n p) = (F : Table D) × SourceOf In v st n F × TempDone v st n F
-  PhaseOk v st (SetTempBlock n) = (F : Table D) × SourceOf In v st n F × TempDone v st n F
-  PhaseOk v st (CloneTemp n) = (F : Table D) × SourceOf In v st n F × TempShut v st n
-  PhaseOk v st (OutdatedOpen finish) = FinishOk v st finish
-  PhaseOk v st (OutdatedRead finish p after) = FinishOk v st finish × PitFresh v st p
-  PhaseOk v st (OutdatedBulk finish p last writes) = ⊥
-  PhaseOk v st (OutdatedClose finish p) = FinishOk v st finish
-  PhaseOk v st (MarkReady from) = MarkOk v st from
-  PhaseOk v st MarkReadyConflict = (c : Text) × (at cur st.aliases ≡ Some c) × Passed v st
-  PhaseOk v st (Ended end) = EndOk v st end
+  abbrev pub StateOk : Settings D Q → Store D → State D → Type 0
+  StateOk v st Init = Unit {0}
+  StateOk v st CreateNewTarget = Empty
+  StateOk v st (CheckUnknown n) = Ground In v st.aliases n
+  StateOk v st (SetSourceBlock n) = Ground In v st.aliases n
+  StateOk v st (CreateTemp n) = (F : Table D) × SourceOf In v st n F
+  StateOk v st (ReindexOpen n) = (F : Table D) × SourceOf In v st n F × Wrote v st n []
+  StateOk v st (ReindexRead n p after pass) = (F : Table D) × SourceOf In v st n F × PitOk st p F.rows × (done : List (Text × D)) × Read v F after pass done [] × Wrote v st n done
+  StateOk v st (ReindexBulk n p last pass outputs) = (F : Table D) × SourceOf In v st n F × PitOk st p F.rows × (done : List (Text × D)) × Read v F (Some last) pass done outputs × Wrote v st n done
+  StateOk v st (ReindexClose n p) = (F : Table D) × SourceOf In v st n F × TempDone v st n F
+  StateOk v st (SetTempBlock n) = (F : Table D) × SourceOf In v st n F × TempDone v st n F
+  StateOk v st (CloneTemp n) = (F : Table D) × SourceOf In v st n F × TempShut v st n
+  StateOk v st (OutdatedOpen finish) = FinishOk v st finish
+  StateOk v st (OutdatedRead finish p after) = FinishOk v st finish × PitFresh v st p
+  StateOk v st (OutdatedBulk finish p last writes) = ⊥
+  StateOk v st (OutdatedClose finish p) = FinishOk v st finish
+  StateOk v st (MarkReady from) = MarkOk v st from
+  StateOk v st MarkReadyConflict = (c : Text) × (at cur st.aliases ≡ Some c) × Passed v st
+  StateOk v st (Ended end) = EndOk v st end
 
   -- what lasts keeps them
   module _ (st st' : Store D) (later : Later st st') where
@@ -346,26 +346,26 @@ module _ {D Q : Type 0} (cur : Text) (In : Settings D Q → Type 0) (Fresh : Set
     passed_later v (inl e) = inl e
     passed_later v (inr p) = inr (p.0, ground_later v p.0 p.1, λ e. later.off p.1.set p.1.is_in p.1.installed (λ f. p.2 (f ∙ ap (λ z. Some z) (sym p.1.name))) (e ∙ ap (λ z. Some z) p.1.name))
 
-    pub phase_later : (v : Settings D Q) (state : State D) → In v → PhaseOk v st state → PhaseOk v st' state
-    phase_later v Init i c = c
-    phase_later v CreateNewTarget i c = c
-    phase_later v (CheckUnknown n) i c = ground_later v n c
-    phase_later v (SetSourceBlock n) i c = ground_later v n c
-    phase_later v (CreateTemp n) i c = (c.0, source_later v n c.0 c.1)
-    phase_later v (ReindexOpen n) i c = (c.0, source_later v n c.0 c.1, wrote_later v n [] i c.2)
-    phase_later v (ReindexRead n p after pass) i c = (c.0, source_later v n c.0 c.1, pit_later p c.0.rows c.2, c.3, c.4, wrote_later v n c.3 i c.5)
-    phase_later v (ReindexBulk n p last pass outputs) i c = (c.0, source_later v n c.0 c.1, pit_later p c.0.rows c.2, c.3, c.4, wrote_later v n c.3 i c.5)
-    phase_later v (ReindexClose n p) i c = (c.0, source_later v n c.0 c.1, done_later v n c.0 i c.2)
-    phase_later v (SetTempBlock n) i c = (c.0, source_later v n c.0 c.1, done_later v n c.0 i c.2)
-    phase_later v (CloneTemp n) i c = (c.0, source_later v n c.0 c.1, shut_later v n i c.2)
-    phase_later v (OutdatedOpen finish) i c = finish_later v finish i c
-    phase_later v (OutdatedRead finish p after) i c = (finish_later v finish i c.0, (c.1.0, pit_later p c.1.0 c.1.1, c.1.2))
-    phase_later v (OutdatedBulk finish p last writes) i c = c
-    phase_later v (OutdatedClose finish p) i c = finish_later v finish i c
-    phase_later v (MarkReady None) i c = (c.0, is_later v i c.1)
-    phase_later v (MarkReady (Some n)) i c = ready_later v n i c
-    phase_later v MarkReadyConflict i c = let k = later.named c.0 c.1 in (k.0, k.1, passed_later v c.2)
-    phase_later v (Ended end) i c = end_later v end i c
+    pub state_later : (v : Settings D Q) (state : State D) → In v → StateOk v st state → StateOk v st' state
+    state_later v Init i c = c
+    state_later v CreateNewTarget i c = c
+    state_later v (CheckUnknown n) i c = ground_later v n c
+    state_later v (SetSourceBlock n) i c = ground_later v n c
+    state_later v (CreateTemp n) i c = (c.0, source_later v n c.0 c.1)
+    state_later v (ReindexOpen n) i c = (c.0, source_later v n c.0 c.1, wrote_later v n [] i c.2)
+    state_later v (ReindexRead n p after pass) i c = (c.0, source_later v n c.0 c.1, pit_later p c.0.rows c.2, c.3, c.4, wrote_later v n c.3 i c.5)
+    state_later v (ReindexBulk n p last pass outputs) i c = (c.0, source_later v n c.0 c.1, pit_later p c.0.rows c.2, c.3, c.4, wrote_later v n c.3 i c.5)
+    state_later v (ReindexClose n p) i c = (c.0, source_later v n c.0 c.1, done_later v n c.0 i c.2)
+    state_later v (SetTempBlock n) i c = (c.0, source_later v n c.0 c.1, done_later v n c.0 i c.2)
+    state_later v (CloneTemp n) i c = (c.0, source_later v n c.0 c.1, shut_later v n i c.2)
+    state_later v (OutdatedOpen finish) i c = finish_later v finish i c
+    state_later v (OutdatedRead finish p after) i c = (finish_later v finish i c.0, (c.1.0, pit_later p c.1.0 c.1.1, c.1.2))
+    state_later v (OutdatedBulk finish p last writes) i c = c
+    state_later v (OutdatedClose finish p) i c = finish_later v finish i c
+    state_later v (MarkReady None) i c = (c.0, is_later v i c.1)
+    state_later v (MarkReady (Some n)) i c = ready_later v n i c
+    state_later v MarkReadyConflict i c = let k = later.named c.0 c.1 in (k.0, k.1, passed_later v c.2)
+    state_later v (Ended end) i c = end_later v end i c
 
     pub temp_ok_later : (v : Settings D Q) (ix : Index D) → TempOk v st ix → TempOk v st' ix
     temp_ok_later v ix t = record { source = t.source; table = t.table; from = t.from; ground = source_later v t.source t.table t.ground; only = t.only; sorted = t.sorted; whole = t.whole }

@@ -14,17 +14,17 @@ use Rattle.race_model.specs.Machines.End.{Fatal}
 use Rattle.race_model.specs.Machines.Finish.{Stands, Switch}
 use Rattle.race_model.specs.Machines.State.{Init, CreateNewTarget, CheckUnknown, SetSourceBlock, CreateTemp, ReindexOpen, ReindexRead, ReindexBulk, ReindexClose, SetTempBlock, CloneTemp, OutdatedOpen, OutdatedRead, OutdatedBulk, OutdatedClose, MarkReady, MarkReadyConflict, Ended}
 use Rattle.race_model.specs.Worlds.{Race}
-use Rattle.race_model.specs.Migrated.{outs}
+use Rattle.race_model.specs.Migrated.{outs, NoneHas, AllApart}
 use Rattle.race_model.specs.Sorted.{IsSorted, Each, last_key}
 use Rattle.race_tables.proofs.Keys.{same_true, same_refl, same_false, at_put_same}
 use Rattle.race_tables.proofs.Tables.{Holds, AllHas, holds_append, holds_more, holds_write_all, is_in_write_all, each_append}
-use Rattle.race_tables.proofs.Outputs.{Is, Clean, Lacks, Distinct, MayFail, all_has_of, outs_append}
+use Rattle.race_tables.proofs.Outputs.{Is, Clean, MayFail, all_has_of, outs_append}
 use Rattle.race_tables.proofs.Lists.{has_append_left, has_append_right, some_same, none_some}
 use Rattle.race_tables.proofs.Requests.{meant_itself, at_flags, pit_here}
 use Rattle.race_tables.proofs.Batches.{batch_good, batch_bad, last_key_append, last_of_key}
 use Rattle.race_tables.proofs.Completing.{Exact, batch_exact}
 use Rattle.race_model.specs.Premises.{NamesApart, RaceLaws}
-use Rattle.race_facts.proofs.Facts.{Installed, HoldsFrom, Ground, SourceOf, Read, Current, TempOk, StoreOk, Later, PitOk, Wrote, TempDone, TempShut, Ready, Cond, FinishOk, PitFresh, CauseOk, PhaseOk, source_later, phase_later}
+use Rattle.race_facts.proofs.Facts.{Installed, HoldsFrom, Ground, SourceOf, Read, Current, TempOk, StoreOk, Later, PitOk, Wrote, TempDone, TempShut, Ready, Cond, FinishOk, PitFresh, CauseOk, StateOk, source_later, state_later}
 use Rattle.race_facts.proofs.Facts.Current.{Nowhere, On}
 use Rattle.race_facts.proofs.Facts.Cond.{Any_state, Any_open, Any_read, Any_close, Any_search, Makes_temp, Makes_target, Blocks_source, Blocks_temp, Copies, Writes, Switches, Installs}
 use Rattle.race_facts.proofs.Serving.{not_both}
@@ -50,7 +50,7 @@ module _ {D Q C : Type 0} (race : Race D Q C) (cur : Text) (In : Settings D Q �
   Ok st = StoreOk cur In Fresh Empty st
 
   abbrev At : Store D → State D → Type 0
-  At st state = PhaseOk cur In Fresh Empty v st state
+  At st state = StateOk cur In Fresh Empty v st state
 
   abbrev Needs : Store D → Request D Q → Type 0
   Needs st ask = Cond cur In Fresh Empty v st ask
@@ -194,7 +194,7 @@ module _ {D Q C : Type 0} (race : Race D Q C) (cur : Text) (In : Settings D Q �
           )
 
   open_moves : (st : Store D) (n : Text) (F : Table D) → Ok st → (s : SourceOf In v st n F) → Wrote cur In Fresh Empty v st n [] → At (open_over (at (meant st n) st.indices) st n).0 (from_open n (open_over (at (meant st n) st.indices) st n).1)
-  unfolding outs Each Distinct Lacks pit_at last_key at
+  unfolding outs Each AllApart NoneHas pit_at last_key at
   open_moves st n F a s w =
       let itself : meant st n ≡ n = meant_itself st n (subst (λ m. at m st.aliases ≡ None) (sym s.ground.name) (a.aliases.no_target_alias s.ground.set s.ground.is_in)) in
       rw (itself, s.blocked.there) (
@@ -407,7 +407,7 @@ module _ {D Q C : Type 0} (race : Race D Q C) (cur : Text) (In : Settings D Q �
 
   -- what holds of a machine holds after any request whose condition holds
   pub still : (st : Store D) (state : State D) (ask : Request D Q) → Ok st → Needs st ask → At st state → At (serve race.select st ask).0 state
-  still st state ask a c k = phase_later cur In Fresh Empty st (serve race.select st ask).0 (lasts st ask a c) v state i k
+  still st state ask a c k = state_later cur In Fresh Empty st (serve race.select st ask).0 (lasts st ask a c) v state i k
 
   closed : (st : Store D) (p : ℕ) → Ok st → (state : State D) → At st state → At (close_over (pit_at p st.pits) st p).0 state
   unfolding serve

@@ -20,11 +20,11 @@ use Rattle.race_model.specs.Openings.{Opening, opening_store, IsEmptyOpening}
 use Rattle.race_model.specs.Openings.Opening.{NoGeneration, OneGeneration}
 use Rattle.race_model.specs.Premises.{Paged, NamesApart, RaceLaws, AllSound, IsOpening}
 use Rattle.race_tables.proofs.Outputs.{Is}
-use Rattle.race_facts.proofs.Racing.{every_phase, TraceFacts, PastFacts, EachPlace, place_at, made_cond, no_instance, trace_step, trace_run}
+use Rattle.race_facts.proofs.Racing.{every_state, TraceFacts, PastFacts, EachPlace, place_at, made_cond, no_instance, trace_step, trace_run}
 use Rattle.race_follow.proofs.Following.{places_at, NodeAgrees, Agrees, worlds_kept}
 use Rattle.race_model.specs.Worlds.How.{Heard}
 use Rattle.race_model.specs.Runs.{last_generation, IsRun}
-use Rattle.race_facts.proofs.Facts.{Installed, NotYet, StoreOk, Cond, Other, CauseOk, EndOk, PhaseOk}
+use Rattle.race_facts.proofs.Facts.{Installed, NotYet, StoreOk, Cond, Other, CauseOk, EndOk, StateOk}
 use Rattle.race_facts.proofs.Facts.Current.{Nowhere, On}
 use Rattle.race_facts.proofs.Facts.Cond.{Any_ping, Any_state, Any_open, Any_read, Any_close, Any_get, Any_search, Makes_temp, Makes_target, Blocks_source, Blocks_temp, Copies, Writes, Switches, Installs}
 

@@ -16,15 +16,15 @@ use Rattle.race_tables.proofs.Tables.{sorted_writes}
 use Rattle.race_tables.proofs.Lists.{some_same, Every, every_more, every_nth, every_with, every_has}
 use Rattle.race_tables.proofs.Requests.{meant_itself, meant_alias, fresh_write_all, fresh_found}
 use Rattle.race_follow.proofs.Following.{nth_other, nth_here}
-use Rattle.race_facts.proofs.Facts.{Installed, StoreOk, Later, Cond, PhaseOk, cond_later, phase_later}
+use Rattle.race_facts.proofs.Facts.{Installed, StoreOk, Later, Cond, StateOk, cond_later, state_later}
 use Rattle.race_facts.proofs.Serving.{Served, same_store, not_both, put_target}
 use Rattle.race_facts.proofs.Switching.{request_served}
 use Rattle.race_facts.proofs.Moving.{asks_cond, moves}
 
-pub every_phase : {D : Type 0} (P : State D → Type 0) (tag : ℕ) (runs : List (Run D)) → P Init → Every (λ r. P r.state) runs → P (state_of tag runs)
+pub every_state : {D : Type 0} (P : State D → Type 0) (tag : ℕ) (runs : List (Run D)) → P Init → Every (λ r. P r.state) runs → P (state_of tag runs)
 unfolding Every state_of
-every_phase P tag [] i a = i
-every_phase P tag (r ∷ runs) i a = by (tag == r.tag) (every_phase P tag runs i a.1)
+every_state P tag [] i a = i
+every_state P tag (r ∷ runs) i a = by (tag == r.tag) (every_state P tag runs i a.1)
   where
     by : (t : Bool) → P (state_of tag runs) → P (if t then r.state else state_of tag runs)
     by true rest = a.0
@@ -39,7 +39,7 @@ uncut_asks clients false script ask e = e
 unfoldable pub EachPlace : {A : Type 0} → (ℕ → A → Type 0) → List A → Type 0
 EachPlace {A = A} P xs = (i : ℕ) (x : A) → nth xs i ≡ Some x → P i x
 
-place_with : {A : Type 0} (P : ℕ → A → Type 0) (xs : List A) (i : ℕ) (x0 y : A) → EachPlace P xs → nth xs i ≡ Some x0 → P i y → EachPlace P (with_nth xs i y)
+pub place_with : {A : Type 0} (P : ℕ → A → Type 0) (xs : List A) (i : ℕ) (x0 y : A) → EachPlace P xs → nth xs i ≡ Some x0 → P i y → EachPlace P (with_nth xs i y)
 unfolding EachPlace
 place_with {A = A} P xs i x0 y a e h = λ j x f. by j x (i == j) refl f
   where
@@ -62,7 +62,7 @@ place_at P xs i x a e = a i x e
 module _ {D Q C : Type 0} (race : Race D Q C) (cur : Text) (In : Settings D Q → Type 0) (Fresh : Settings D Q → Text → D → Type 0) (Empty : Type 0) (Sound : C → Type 0) where
   -- what holds of an instance: each of its starts, and each request of its entries
   pub record PastFacts (st : Store D) (i : ℕ) (past : Past D Q) : Type 0 where
-    pub runs : Every (λ r. PhaseOk cur In Fresh Empty (race.settings i) st r.state) past.runs
+    pub runs : Every (λ r. StateOk cur In Fresh Empty (race.settings i) st r.state) past.runs
     pub asked : Every (λ ask. Cond cur In Fresh Empty (race.settings i) st ask) past.asked
 
   pub record TraceFacts (t : Trace D Q C) : Type 0 where
@@ -143,7 +143,7 @@ module _ {D Q C : Type 0} (race : Race D Q C) (cur : Text) (In : Settings D Q �
 
   past_later : (st st' : Store D) → Later cur In Fresh Empty st st' → (i : ℕ) (past : Past D Q) → PastOk st i past → PastOk st' i past
   past_later st st' later i past a = record {
-    runs = every_more (λ r. PhaseOk cur In Fresh Empty (race.settings i) st r.state) (λ r. PhaseOk cur In Fresh Empty (race.settings i) st' r.state) past.runs (λ r. phase_later cur In Fresh Empty st st' later (race.settings i) r.state (laws.runs i)) a.runs;
+    runs = every_more (λ r. StateOk cur In Fresh Empty (race.settings i) st r.state) (λ r. StateOk cur In Fresh Empty (race.settings i) st' r.state) past.runs (λ r. state_later cur In Fresh Empty st st' later (race.settings i) r.state (laws.runs i)) a.runs;
     asked = every_more (λ ask. Cond cur In Fresh Empty (race.settings i) st ask) (λ ask. Cond cur In Fresh Empty (race.settings i) st' ask) past.asked (λ ask. cond_later cur In Fresh Empty st st' later (race.settings i) ask (laws.runs i)) a.asked;
   }
 
@@ -151,8 +151,8 @@ module _ {D Q C : Type 0} (race : Race D Q C) (cur : Text) (In : Settings D Q �
   pub made_cond : (st : Store D) (i : ℕ) (how : How) (past : Past D Q) (tag : ℕ) (ask : Request D Q) → PastOk st i past → MayInstance (race.settings i) how (Some past) tag ask → Cond cur In Fresh Empty (race.settings i) st ask
   made_cond st i how past tag ask a m = by how m
     where
-      own : (g : ℕ) → PhaseOk cur In Fresh Empty (race.settings i) st (state_of g past.runs)
-      own g = every_phase (PhaseOk cur In Fresh Empty (race.settings i) st) g past.runs tt a.runs
+      own : (g : ℕ) → StateOk cur In Fresh Empty (race.settings i) st (state_of g past.runs)
+      own g = every_state (StateOk cur In Fresh Empty (race.settings i) st) g past.runs tt a.runs
 
       by : (h : How) → MayInstance (race.settings i) h (Some past) tag ask → Cond cur In Fresh Empty (race.settings i) st ask
       by Late (inl k) = every_has (λ q. Cond cur In Fresh Empty (race.settings i) st q) past.asked ask a.asked k
@@ -175,8 +175,8 @@ module _ {D Q C : Type 0} (race : Race D Q C) (cur : Text) (In : Settings D Q �
       moved_past : PastOk (serve race.select st ask).0 i past
       moved_past = past_later st (serve race.select st ask).0 later i past a
 
-      state : PhaseOk cur In Fresh Empty (race.settings i) st (state_of tag past.runs)
-      state = every_phase (PhaseOk cur In Fresh Empty (race.settings i) st) tag past.runs tt a.runs
+      state : StateOk cur In Fresh Empty (race.settings i) st (state_of tag past.runs)
+      state = every_state (StateOk cur In Fresh Empty (race.settings i) st) tag past.runs tt a.runs
 
       cond_after : Cond cur In Fresh Empty (race.settings i) (serve race.select st ask).0 ask
       cond_after = cond_later cur In Fresh Empty st (serve race.select st ask).0 later (race.settings i) ask (laws.runs i) cond
@@ -184,7 +184,7 @@ module _ {D Q C : Type 0} (race : Race D Q C) (cur : Text) (In : Settings D Q �
       by : (h : How) → MayInstance (race.settings i) h (Some past) tag ask → PastOk (serve race.select st ask).0 i (past_after (race.settings i) h past tag ask (serve race.select st ask).1)
       by Late k = record { runs = moved_past.runs; asked = (cond_after, moved_past.asked) }
       by Heard k = record { runs = (moves race cur In Fresh Empty Sound laws (race.settings i) (laws.runs i) (laws.not_outdated i) st (state_of tag past.runs) ask ok state k.1, moved_past.runs); asked = (cond_after, moved_past.asked) }
-      by Unheard k = record { runs = (phase_later cur In Fresh Empty st (serve race.select st ask).0 later (race.settings i) (state_of tag past.runs) (laws.runs i) state, moved_past.runs); asked = (cond_after, moved_past.asked) }
+      by Unheard k = record { runs = (state_later cur In Fresh Empty st (serve race.select st ask).0 later (race.settings i) (state_of tag past.runs) (laws.runs i) state, moved_past.runs); asked = (cond_after, moved_past.asked) }
 
   pub no_instance : (s : Settings D Q) (h : How) (tag : ℕ) (ask : Request D Q) → MayInstance s h None tag ask → ⊥
   no_instance s Heard tag ask k = k

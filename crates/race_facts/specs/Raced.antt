@@ -63,6 +63,7 @@ IsCause sets v st (OtherVersion (Some n)) = (n ≢ v.target) × IsInstalled sets
 IsCause sets v st (Leftover n its from) = ((n ≡ v.temp) ⊎ (n ≡ v.target)) × (its ≢ Some from)
 IsCause sets v st _ = ⊥
 
+-- what every schedule leaves
 pub record Raced {D Q C : Type 0} (race : Race D Q C) (sets : List (Settings D Q)) (IsEmpty : Type 0) (w : World D Q C) : Type 0 where
   -- whoever is done names its version's one target, on which the version's alias is
   pub done : (i : ℕ) (node : Node D Q) (m : Machine D) (target : Text) → nth w.nodes i ≡ Some node → node.machine ≡ Some m → m.state ≡ Ended (End.Done target) →

@@ -120,14 +120,14 @@ module _ {D Q C : Type 0} (race : Race D Q C) where
   AllSent i past (x ∷ xs) = IsSent i past x × AllSent i past xs
 
   -- the entries tell the machine's state, or it gave up
-  abbrev pub IsPhase : State D → State D → Type 0
-  IsPhase told state = (told ≡ state) ⊎ ((name : StateName) × (faults : ℕ) × (state ≡ Ended (GaveUp name faults)))
+  abbrev pub IsToldState : State D → State D → Type 0
+  IsToldState told state = (told ≡ state) ⊎ ((name : StateName) × (faults : ℕ) × (state ≡ Ended (GaveUp name faults)))
 
   -- the entries tell the truth of an instance
   pub record NodeAgrees (i : ℕ) (past : Past D Q) (node : Node D Q) : Type 0 where
     pub newest_tag : newest past.runs ≤ node.starts
     pub fresh : (tag : ℕ) → node.starts < tag → state_of tag past.runs ≡ Init
-    pub state : (m : Machine D) → node.machine ≡ Some m → IsPhase (state_of node.starts past.runs) m.state
+    pub state : (m : Machine D) → node.machine ≡ Some m → IsToldState (state_of node.starts past.runs) m.state
     pub sent : AllSent i past node.sent
 
   -- the caller is as the entries tell, but that it may have been cut with no entry
@@ -183,12 +183,12 @@ module _ {D Q C : Type 0} (race : Race D Q C) where
   unfolding Has state_of
   sent_entered i p tag ask ph heard e x a = grind (arith, nat_tests)
 
-  phase_here : (tag : ℕ) (ph : State D) (heard : ℕ) (runs : List (Run D)) → state_of tag (record { tag = tag; state = ph; heard = heard } ∷ runs) ≡ ph
+  state_here : (tag : ℕ) (ph : State D) (heard : ℕ) (runs : List (Run D)) → state_of tag (record { tag = tag; state = ph; heard = heard } ∷ runs) ≡ ph
   unfolding state_of
-  phase_here tag ph heard runs = grind (arith, nat_tests)
+  state_here tag ph heard runs = grind (arith, nat_tests)
 
   node_entered : (i : ℕ) (p : Past D Q) (node : Node D Q) (m m' : Machine D) (ask : Request D Q) (failed : Bool) (ph : State D) (heard : ℕ) → NodeAgrees i p node → node.machine ≡ Some m → request (race.settings i) m.state ≡ Some ask
-      → IsPhase ph m'.state
+      → IsToldState ph m'.state
       → NodeAgrees i (entered p node.starts ask ph heard) (sent_by node m' ask failed)
   unfolding Has state_of
   node_entered i p node m m' ask failed ph heard a e q run =
@@ -196,7 +196,7 @@ module _ {D Q C : Type 0} (race : Race D Q C) where
       record {
         newest_tag = omega arith;
         fresh = λ tag lt. grind (arith, nat_tests, a.fresh tag);
-        state = λ k i. let same_machine : m' ≡ k = cc in subst (λ x. IsPhase (state_of node.starts (entered p node.starts ask ph heard).runs) x.state) same_machine (rw (phase_here node.starts ph heard p.runs) run);
+        state = λ k i. let same_machine : m' ≡ k = cc in subst (λ x. IsToldState (state_of node.starts (entered p node.starts ask ph heard).runs) x.state) same_machine (rw (state_here node.starts ph heard p.runs) run);
         sent = all_sent_end i (entered p node.starts ask ph heard) node.sent (record { tag = node.starts; request = ask; failed = failed })
             (all_sent_more i p (entered p node.starts ask ph heard) node.sent (sent_entered i p node.starts ask ph heard known) a.sent) (inl (inl refl));
       }
@@ -213,7 +213,7 @@ module _ {D Q C : Type 0} (race : Race D Q C) where
 
   -- a send that failed and made no entry
   node_failed : (i : ℕ) (p : Past D Q) (node : Node D Q) (m m' : Machine D) (ask : Request D Q) (failed : Bool) → NodeAgrees i p node → node.machine ≡ Some m → request (race.settings i) m.state ≡ Some ask
-      → IsPhase m.state m'.state
+      → IsToldState m.state m'.state
       → NodeAgrees i p (sent_by node m' ask failed)
   node_failed i p node m m' ask failed a e q run =
       let known : request (race.settings i) (state_of node.starts p.runs) ≡ Some ask = rw (running i p node m ask a e q) q in
@@ -221,7 +221,7 @@ module _ {D Q C : Type 0} (race : Race D Q C) where
       record {
         newest_tag = a.newest_tag;
         fresh = a.fresh;
-        state = λ k i. let same_machine : m' ≡ k = cc in subst (λ x. IsPhase (state_of node.starts p.runs) x.state) same_machine (rw was run);
+        state = λ k i. let same_machine : m' ≡ k = cc in subst (λ x. IsToldState (state_of node.starts p.runs) x.state) same_machine (rw was run);
         sent = all_sent_end i p node.sent (record { tag = node.starts; request = ask; failed = failed }) a.sent (inr known);
       }
 
@@ -270,10 +270,10 @@ module _ {D Q C : Type 0} (race : Race D Q C) where
       )
 
   -- a machine that has a request after a fault is in the state that it was in
-  failed_phase : (i : ℕ) (m : Machine D) → IsPhase m.state (failed (race.settings i) m).state
-  failed_phase i m = by (nat_le (m.faults + 1) (race.settings i).attempts)
+  failed_state : (i : ℕ) (m : Machine D) → IsToldState m.state (failed (race.settings i) m).state
+  failed_state i m = by (nat_le (m.faults + 1) (race.settings i).attempts)
     where
-      by : (b : Bool) → IsPhase m.state (if◌then◌else◌ {A = Machine D} b (record { state = m.state; faults = m.faults + 1; delay_ms = m.delay_ms + 1000 * min (2 ^ (m.faults + 1)) 64 }) (record { state = Ended (GaveUp (name_of m.state) (m.faults + 1)); faults = m.faults + 1; delay_ms = m.delay_ms })).state
+      by : (b : Bool) → IsToldState m.state (if◌then◌else◌ {A = Machine D} b (record { state = m.state; faults = m.faults + 1; delay_ms = m.delay_ms + 1000 * min (2 ^ (m.faults + 1)) 64 }) (record { state = Ended (GaveUp (name_of m.state) (m.faults + 1)); faults = m.faults + 1; delay_ms = m.delay_ms })).state
       by true = inl refl
       by false = inr (name_of m.state, m.faults + 1, refl)
 
@@ -293,7 +293,7 @@ module _ {D Q C : Type 0} (race : Race D Q C) where
           callers = a.callers;
           nodes = rw past.1 (
               places_with NodeAgrees t.pasts w.nodes i p (entered p node.starts ask (state_of node.starts p.runs) (heard_of node.starts p.runs)) node (sent_by node (failed (race.settings i) m) ask true) a.nodes past.1 e
-              (node_entered i p node m (failed (race.settings i) m) ask true (state_of node.starts p.runs) (heard_of node.starts p.runs) past.2 f q (rw was (failed_phase i m))));
+              (node_entered i p node m (failed (race.settings i) m) ask true (state_of node.starts p.runs) (heard_of node.starts p.runs) past.2 f q (rw was (failed_state i m))));
         },
       )
   lost_leads t w i false node m (Some ask) a e f q =
@@ -305,7 +305,7 @@ module _ {D Q C : Type 0} (race : Race D Q C) where
           store = a.store;
           callers = a.callers;
           nodes = subst (λ ps. Places NodeAgrees ps (with_nth w.nodes i (sent_by node (failed (race.settings i) m) ask true))) (with_same t.pasts i p past.1)
-              (places_with NodeAgrees t.pasts w.nodes i p p node (sent_by node (failed (race.settings i) m) ask true) a.nodes past.1 e (node_failed i p node m (failed (race.settings i) m) ask true past.2 f q (failed_phase i m)));
+              (places_with NodeAgrees t.pasts w.nodes i p p node (sent_by node (failed (race.settings i) m) ask true) a.nodes past.1 e (node_failed i p node m (failed (race.settings i) m) ask true past.2 f q (failed_state i m)));
         },
       )
 

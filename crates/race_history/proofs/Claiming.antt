@@ -11,11 +11,12 @@ use Rattle.race_model.specs.Generations.{Generations, of_alias}
 use Rattle.race_model.specs.History.{facts_from, FoundSoFar}
 use Rattle.race_model.specs.Premises.{NamesApart, RaceLaws}
 use Rattle.race_tables.proofs.Outputs.{Is}
-use Rattle.race_facts.proofs.Racing.{every_phase, TraceFacts, PastFacts, place_at, trace_run}
+use Rattle.race_facts.proofs.Racing.{every_state, TraceFacts, PastFacts, place_at, trace_run}
 use Rattle.race_model.specs.Runs.{IsRun}
-use Rattle.race_facts.proofs.Facts.{StoreOk, EndOk, PhaseOk}
+use Rattle.race_facts.proofs.Facts.{StoreOk, EndOk, StateOk}
 use Rattle.race_facts.proofs.Opening.{opens_trace}
-use Rattle.race_history.proofs.Histories.{Shows, FoundOk, runs}
+use Rattle.race_history.proofs.Histories.{Shows, FoundOk}
+use Rattle.race_history.proofs.Telling.{runs}
 use Rattle.race_history.proofs.Ending.{run_told}
 use Rattle.race_history.specs.Generated.{HasFact, AreShown}
 use Rattle.race_model.specs.Runs.{IsRun}
@@ -50,8 +51,8 @@ module _ {D Q C : Type 0} (race : Race D Q C) (cur : Text) (sets : List (Setting
         let a0 : TraceOk t0 = starts instances scripts sound in
         let t : Trace D Q C = all_followed race t0 j in
         let a : TraceOk t = trace_run race cur In Fresh Empty Sound laws t0 j a0 c in
-        let o : EndOk cur In Fresh Empty (race.settings i) t.store (End.Done target) = subst (PhaseOk cur In Fresh Empty (race.settings i) t.store) q
-        (every_phase (PhaseOk cur In Fresh Empty (race.settings i) t.store) tag past.runs tt (place_at (PastFacts race cur In Fresh Empty Sound t.store) t.pasts i past a.pasts e).runs) in
+        let o : EndOk cur In Fresh Empty (race.settings i) t.store (End.Done target) = subst (StateOk cur In Fresh Empty (race.settings i) t.store) q
+        (every_state (StateOk cur In Fresh Empty (race.settings i) t.store) tag past.runs tt (place_at (PastFacts race cur In Fresh Empty Sound t.store) t.pasts i past a.pasts e).runs) in
         let r = runs race cur In Fresh Empty Sound laws version_in gs f t0 j s k a0 c in
         let there : Is t.store.indices (race.settings i).target = a.store.there (race.settings i) (laws.runs i) o.1 in
         let found : of_alias (race.settings i).version r.0 ≡ Some (record { alias = (race.settings i).version; index = (race.settings i).target; blocked = there.0.blocked; table = there.0.table }) = r.2.each (race.settings i) (laws.runs i) ∙ rw (o.1, there.1) refl in

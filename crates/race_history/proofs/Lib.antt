@@ -1,5 +1,6 @@
 pub mod Lining
 pub mod Histories
+pub mod Telling
 pub mod Ending
 pub mod Opening
 pub mod Claiming

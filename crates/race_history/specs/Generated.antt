@@ -13,13 +13,13 @@ seen_as v None o = None
 seen_as v (Some i) None = None
 seen_as v (Some i) (Some ix) = Some (record { alias = v.version; index = v.target; blocked = ix.blocked; table = ix.table })
 
+-- the generation of this set, by its alias and its index
 abbrev pub shown_of : {D Q : Type 0} → Settings D Q → Store D → Option (Generation D)
 shown_of v st = seen_as v (at v.version st.aliases) (at v.target st.indices)
 
 -- each version's generation has its index's table and flag
 abbrev pub AreShown : {D Q : Type 0} → List (Settings D Q) → Generations D → Store D → Type 0
 AreShown sets gs st = (v : Settings _ _) → Has v sets → of_alias v.version gs ≡ shown_of v st
-
 
 -- a migration or an install to this target stands among the facts
 abbrev pub HasFact : (target version : Text) → List Fact → Type 0

@@ -49,8 +49,6 @@ pub uncut : {D Q C : Type 0} (clients : Clients D Q C) (cut : Bool) (script : C)
 uncut clients true script ask e = absurd (cc)
 uncut clients false script ask e = refl
 
-
-
 module _ {D Q C A : Type 0} (race : Race D Q C) (meaning : Meaning D C A) (Begins : C → Type 0) (opening : Generations D) (plans : Plans race meaning Begins opening) where
   -- a call that made its first request
   record Going (x : Reading D C) (gs : Generations D) (script : C) : Type 0 where

@@ -15,6 +15,7 @@ EntryCalls meaning gs callers reads (Client k) e left kept =
     (caller : Caller _) × (r : Option (Reading _ _)) × (next : Option (Reading _ _)) × (nth callers k ≡ Some caller) × (nth reads k ≡ Some r)
     × Calls meaning gs (reading r caller.script gs) (meaning.decided caller.script e.reply) left next × (kept ≡ with_nth reads k next)
 
+-- the journal is a run in which each call of a client is one step with its answer
 unfoldable pub IsLegalRun : {D Q C A : Type 0} → Race D Q C → Meaning D C A → (current : Text) → (version_in : Text → Option Text) → FoundSoFar → Generations D → List (Caller C) → List (Option (Reading D C)) → List (Entry D Q) → Type 0
 IsLegalRun race meaning current version_in f gs callers reads [] = Unit {0}
 IsLegalRun race meaning current version_in f gs callers reads (e ∷ es) =

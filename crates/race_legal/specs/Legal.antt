@@ -55,6 +55,7 @@ abbrev pub Calls : {D C A : Type 0} → Meaning D C A → Generations D → Read
 Calls meaning gs r None left kept = (left ≡ gs) × (kept ≡ Some r)
 Calls meaning gs r (Some a) left kept = (a ≡ meaning.answer r.script r.seen gs) × (left ≡ meaning.effect r.script r.seen gs) × (kept ≡ None)
 
+-- the callers after an entry
 abbrev pub callers_of_entry : {D Q C : Type 0} → Race D Q C → List (Caller C) → Actor → Entry D Q → List (Caller C)
 callers_of_entry race callers (Instance i) e = callers
 callers_of_entry race callers (Client k) e = callers_after race.clients callers k (nth callers k) e.how e.reply

@@ -15,6 +15,7 @@ pub record Generation (D : Type 0) : Type 0 where
   pub blocked : Bool
   pub table : Table D
 
+-- the oldest first
 abbrev pub Generations : Type 0 → Type 0
 Generations D = List (Generation D)
 
@@ -23,18 +24,22 @@ unfoldable pub of_alias : {D : Type 0} → Text → Generations D → Option (Ge
 of_alias name [] = None
 of_alias name (g ∷ gs) = if same name g.alias then Some g else of_alias name gs
 
+-- a get of a generation
 abbrev pub get_in : {D : Type 0} → Option (Generation D) → Text → List Text → Reply D
 get_in None name raws = Refused (NoIndex name)
 get_in (Some g) name raws = Found (found g.table.rows raws)
 
+-- a search of a generation
 abbrev pub search_in : {D Q : Type 0} → Select D Q → Option (Generation D) → Text → Q → Reply D
 search_in sel None name query = Refused (NoIndex name)
 search_in sel (Some g) name query = Selected (sel.total query g.table.rows) (sel.rows query g.table.rows)
 
+-- a bulk is refused by a blocked generation
 abbrev pub bulk_reply : {D : Type 0} → Bool → Generation D → List (Write D) → Reply D
 bulk_reply true g writes = Refused (Blocked g.index)
 bulk_reply false g writes = Items (items_of g.table writes)
 
+-- a bulk of a generation
 abbrev pub bulk_in_one : {D : Type 0} → Option (Generation D) → Text → List (Write D) → Reply D
 bulk_in_one None name writes = Refused (NoIndex name)
 bulk_in_one (Some g) name writes = bulk_reply g.blocked g writes
@@ -46,10 +51,12 @@ told_by sel gs (Search name query) = search_in sel (of_alias name gs) name query
 told_by sel gs (Bulk name writes) = bulk_in_one (of_alias name gs) name writes
 told_by sel gs _ = Done
 
+-- a generation after writes, where it is open
 abbrev pub with_table : {D : Type 0} → Bool → Generation D → List (Write D) → Generation D
 with_table true g writes = g
 with_table false g writes = record { alias = g.alias; index = g.index; blocked = false; table = write_all g.table writes }
 
+-- the generations after writes under an alias
 unfoldable pub written_in : {D : Type 0} → Text → List (Write D) → Generations D → Generations D
 written_in name writes [] = []
 written_in name writes (g ∷ gs) = if same name g.alias then with_table g.blocked g writes ∷ gs else g ∷ written_in name writes gs
@@ -88,22 +95,10 @@ abbrev pub install : {D Q : Type 0} → Settings D Q → Generations D → Gener
 install s [] = new_generation s empty_table ∷ []
 install s (g ∷ gs) = g ∷ gs
 
+-- the generations after a move
 abbrev pub move : {D Q : Type 0} → Generations D → Move D Q → Generations D
 move gs Stay = gs
 move gs Move.Block = block_last gs
 move gs (Migrate s) = migrate s gs
 move gs (Install s) = install s gs
 move gs (Move.Ask ask) = left_by gs ask
-
--- the generations that a store shows
-abbrev pub first_of : {D : Type 0} → (source old : Text) → Option (Index D) → Generations D → Generations D
-first_of source old None rest = rest
-first_of source old (Some ix) rest = record { alias = old; index = source; blocked = ix.blocked; table = ix.table } ∷ rest
-
-abbrev pub second_of : {D Q : Type 0} → Settings D Q → Option Text → Option (Index D) → Generations D
-second_of s None o = []
-second_of s (Some i) None = []
-second_of s (Some i) (Some ix) = record { alias = s.version; index = s.target; blocked = ix.blocked; table = ix.table } ∷ []
-
-unfoldable pub shown : {D Q : Type 0} → Settings D Q → (source old : Text) → Store D → Generations D
-shown s source old st = first_of source old (at source st.indices) (second_of s (at s.version st.aliases) (at s.target st.indices))

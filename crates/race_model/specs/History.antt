@@ -8,6 +8,7 @@ use Rattle.race_model.specs.Stores.Reply.{Done}
 use Rattle.race_model.specs.Machines.{is_on}
 use Rattle.race_model.specs.Worlds.{Entry}
 
+-- a fact, with the place of its entry
 pub data Fact : Type 0 where
   Block : (place : ℕ) → Fact
   Migrate : (place : ℕ) → (target version : Text) → Fact
@@ -19,6 +20,7 @@ named_after current on (RemoveMustExist alias index) = if same alias current the
 named_after current on (Add alias index) = if same alias current then Some index else on
 named_after current on (RemoveIndex index) = if is_on index on then None else on
 
+-- the index that the current alias names after these actions
 unfoldable pub named_after_all : (current : Text) → Option Text → List Action → Option Text
 named_after_all current on [] = on
 named_after_all current on (a ∷ actions) = named_after_all current (named_after current on a) actions
@@ -28,11 +30,13 @@ abbrev pub later_or : Option Text → Option Text → Option Text
 later_or (Some later) index = Some later
 later_or None index = index
 
+-- the index that these actions add the current alias to last
 unfoldable pub last_add : (current : Text) → List Action → Option Text
 last_add current [] = None
 last_add current (Add alias index ∷ actions) = later_or (last_add current actions) (if same alias current then Some index else None)
 last_add current (a ∷ actions) = last_add current actions
 
+-- the name is in the list
 unfoldable pub is_listed : Text → List Text → Bool
 is_listed name [] = false
 is_listed name (n ∷ names) = if same name n then true else is_listed name names
@@ -43,6 +47,7 @@ pub record FoundSoFar : Type 0 where
   pub blocked : List Text
   pub place : ℕ
 
+-- the fact of a first block
 abbrev pub block_fact : Bool → ℕ → List Fact
 block_fact true place = Fact.Block place ∷ []
 block_fact false place = []
@@ -56,6 +61,7 @@ abbrev pub migrated_fact : Option Text → ℕ → Text → List Fact
 migrated_fact None place target = []
 migrated_fact (Some version) place target = Fact.Migrate place target version ∷ []
 
+-- the fact of an install, likewise
 abbrev pub installed_fact : Option Text → ℕ → Text → List Fact
 installed_fact None place target = []
 installed_fact (Some version) place target = Fact.Install place target version ∷ []
@@ -72,6 +78,7 @@ facts_of current version_in f (Request.Block index) Done = block_fact (is_first_
 facts_of current version_in f (Aliases actions) Done = alias_fact version_in f.on (last_add current actions) f.place
 facts_of current version_in f _ _ = []
 
+-- what is found after one more request with its reply
 abbrev pub found_after : {D Q : Type 0} → (current : Text) → FoundSoFar → Request D Q → Reply D → FoundSoFar
 found_after current f (Request.Block index) Done = record { on = f.on; blocked = if is_first_block f index then index ∷ f.blocked else f.blocked; place = f.place + 1 }
 found_after current f (Aliases actions) Done = record { on = named_after_all current f.on actions; blocked = f.blocked; place = f.place + 1 }

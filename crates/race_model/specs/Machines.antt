@@ -24,6 +24,7 @@ pub record Settings (D Q : Type 0) : Type 0 where
   pub outcome : Text → D → Outcome D
   pub attempts : ℕ
 
+-- why a start ends as fatal
 pub data Cause : Type 0 where
   UnknownObjects : List Text → Cause
   CorruptObjects : List Text → Cause
@@ -57,6 +58,7 @@ pub data StateName : Type 0 where
   MarkReady : StateName
   MarkReadyConflict : StateName
 
+-- how a start ends
 pub data End : Type 0 where
   Done : (target : Text) → End
   Fatal : Cause → End
@@ -71,6 +73,7 @@ pub data Finish : Type 0 where
 abbrev pub Pass : Type 0
 Pass = Keyed Text
 
+-- the state of a machine, with what it remembers
 pub data State (D : Type 0) : Type 0 where
   Init : State D
   CreateNewTarget : State D
@@ -112,6 +115,7 @@ name_of (MarkReady source) = StateName.MarkReady
 name_of MarkReadyConflict = StateName.MarkReadyConflict
 name_of (Ended end) = StateName.Init
 
+-- the index whose outdated documents are looked for
 abbrev pub goal_of : {D Q : Type 0} → Settings D Q → Finish → Text
 goal_of s (Stands index) = index
 goal_of s (Switch source) = s.target
@@ -121,9 +125,11 @@ abbrev pub switch : {D Q : Type 0} → Settings D Q → Option Text → List Act
 switch s None = Add s.current s.target ∷ Add s.version s.target ∷ []
 switch s (Some source) = RemoveMustExist s.current source ∷ Add s.current s.target ∷ Add s.version s.target ∷ RemoveIndex s.temp ∷ []
 
+-- one create for each output
 abbrev pub creates : {D : Type 0} → List (Text × D) → List (Write D)
 creates outputs = map (λ o. Write.Create o.0 o.1) outputs
 
+-- the request of each state
 unfoldable pub request : {D Q : Type 0} → Settings D Q → State D → Option (Request D Q)
 request s Init = Some Request.State
 request s CreateNewTarget = Some (Create s.target None)
@@ -149,18 +155,22 @@ unfoldable pub raws_where : {D : Type 0} → (Text → D → Bool) → Rows D �
 raws_where test [] = []
 raws_where test (r ∷ rs) = if test r.0 r.1.doc then r.0 ∷ raws_where test rs else raws_where test rs
 
+-- the type is not known
 abbrev pub is_unknown : {D : Type 0} → Outcome D → Bool
 is_unknown Unknown = true
 is_unknown _ = false
 
+-- the document is corrupt
 abbrev pub is_corrupt : {D : Type 0} → Outcome D → Bool
 is_corrupt Corrupt = true
 is_corrupt _ = false
 
+-- the document is newer than the version
 abbrev pub is_newer : {D : Type 0} → Outcome D → Bool
 is_newer TooNew = true
 is_newer _ = false
 
+-- the outputs, none where there is another outcome
 abbrev pub outputs_of : {D : Type 0} → Outcome D → List (Text × D)
 outputs_of (Outputs os) = os
 outputs_of _ = []
@@ -170,6 +180,7 @@ pub data Batch (D : Type 0) : Type 0 where
   Good : (outputs : List (Text × D)) → Pass → Batch D
   Bad : Cause → Batch D
 
+-- the collision where the raw id was there, and else what follows
 abbrev pub met : Option Text → (source raw : Text) → Option Cause → Option Cause
 met (Some first) source raw rest = Some (Collision first source raw)
 met None source raw rest = rest
@@ -179,18 +190,22 @@ unfoldable pub collision : {D : Type 0} → Pass → Text → List (Text × D) �
 collision pass source [] = None
 collision pass source (o ∷ os) = met (at o.0 pass) source o.0 (collision (put o.0 source pass) source os)
 
+-- the pass with the outputs of one more row
 unfoldable pub pass_after : {D : Type 0} → Pass → Text → List (Text × D) → Pass
 pass_after pass source [] = pass
 pass_after pass source (o ∷ os) = pass_after (put o.0 source pass) source os
 
+-- more outputs before those of a batch
 abbrev pub with_front : {D : Type 0} → List (Text × D) → Batch D → Batch D
 with_front front (Good outputs pass) = Good (front ++ outputs) pass
 with_front front (Bad cause) = Bad cause
 
+-- the cause where there is one, and else the batch
 abbrev pub unless : {D : Type 0} → Option Cause → Batch D → Batch D
 unless (Some cause) batch = Bad cause
 unless None batch = batch
 
+-- the outputs of rows in order, or their first collision
 unfoldable pub gathered : {D Q : Type 0} → Settings D Q → Pass → Rows D → Batch D
 gathered s pass [] = Good [] pass
 gathered s pass (r ∷ rs) =
@@ -202,6 +217,7 @@ abbrev pub where_none : {D : Type 0} → List Text → (List Text → Cause) →
 where_none [] cause batch = batch
 where_none (raw ∷ raws) cause batch = Bad (cause (raw ∷ raws))
 
+-- the batch of these rows: first the unknown, then the corrupt, then the newer, then a collision
 unfoldable pub batch : {D Q : Type 0} → Settings D Q → Pass → Rows D → Batch D
 batch s pass rows =
     where_none (raws_where (λ raw doc. is_unknown (s.outcome raw doc)) rows) UnknownObjects
@@ -209,6 +225,7 @@ batch s pass rows =
     (where_none (raws_where (λ raw doc. is_newer (s.outcome raw doc)) rows) NewerObjects
     (gathered s pass rows)))
 
+-- the last raw id
 unfoldable pub last_of : {D : Type 0} → Text → Rows D → Text
 last_of raw [] = raw
 last_of raw (r ∷ rs) = last_of r.0 rs
@@ -225,6 +242,7 @@ abbrev pub unless_left : {D : Type 0} → Text → Option IndexSeen → Text →
 unless_left name None source state = state
 unless_left name (Some ix) source state = if is_on source ix.source then state else Ended (Fatal (Leftover name ix.source source))
 
+-- the current alias is on this index
 abbrev pub by_index : {D Q : Type 0} → Settings D Q → Text → Bool → (temp target : Option IndexSeen) → State D
 by_index s index true temp target = OutdatedOpen (Stands index)
 by_index s index false temp target =
@@ -232,29 +250,35 @@ by_index s index false temp target =
     if s.is_same index then Ended (Fatal (VersionAliasMissing index)) else
     unless_left s.temp temp index (unless_left s.target target index (CheckUnknown index))
 
+-- after the aliases that a State showed
 abbrev pub by_aliases : {D Q : Type 0} → Settings D Q → (cur ver : Option Text) → (temp target : Option IndexSeen) → State D
 by_aliases s None ver temp target = CreateNewTarget
 by_aliases s (Some index) ver temp target = by_index s index (is_on index ver) temp target
 
+-- an index under the current alias's name comes first
 abbrev pub unless_legacy : {D Q : Type 0} → Settings D Q → Option IndexSeen → State D → State D
 unless_legacy s (Some ix) state = Ended (Fatal (LegacyIndex s.current))
 unless_legacy s None state = state
 
+-- Init
 abbrev pub from_state : {D Q : Type 0} → Settings D Q → Reply D → State D
 from_state s (Seen indices aliases) = unless_legacy s (at s.current indices) (by_aliases s (at s.current aliases) (at s.version aliases) (at s.temp indices) (at s.target indices))
 from_state s _ = Init
 
+-- CreateNewTarget
 abbrev pub from_new_target : {D Q : Type 0} → Settings D Q → Reply D → State D
 from_new_target s Reply.Done = MarkReady None
 from_new_target s (Refused (Exists name its)) = MarkReady None
 from_new_target s (Refused (Refusal.NameTaken name)) = Ended (Fatal (Cause.NameTaken name))
 from_new_target s _ = Init
 
+-- CheckUnknown
 abbrev pub from_check : {D : Type 0} → Text → Reply D → State D
 from_check source (Selected total []) = SetSourceBlock source
 from_check source (Selected total (r ∷ rs)) = Ended (Fatal (UnknownObjects (map (λ x. x.0) (r ∷ rs))))
 from_check source _ = Init
 
+-- SetSourceBlock
 abbrev pub from_source_block : {D : Type 0} → Text → Reply D → State D
 from_source_block source Reply.Done = CreateTemp source
 from_source_block source _ = Init
@@ -264,48 +288,57 @@ abbrev pub where_from : {D : Type 0} → Bool → State D → Text → Option Te
 where_from true next name its source = next
 where_from false next name its source = Ended (Fatal (Leftover name its source))
 
+-- CreateTemp
 abbrev pub from_create_temp : {D Q : Type 0} → Settings D Q → Text → Reply D → State D
 from_create_temp s source Reply.Done = ReindexOpen source
 from_create_temp s source (Refused (Exists name its)) = where_from (is_on source its) (ReindexOpen source) s.temp its source
 from_create_temp s source (Refused (Refusal.NameTaken name)) = Ended (Fatal (Cause.NameTaken name))
 from_create_temp s source _ = Init
 
+-- ReindexOpen
 abbrev pub from_open : {D : Type 0} → Text → Reply D → State D
 from_open source (Pit p) = ReindexRead source p None []
 from_open source _ = Init
 
+-- after a batch
 abbrev pub by_batch : {D : Type 0} → Text → ℕ → Text → Batch D → State D
 by_batch source p last (Bad cause) = Ended (Fatal cause)
 by_batch source p last (Good [] pass) = ReindexRead source p (Some last) pass
 by_batch source p last (Good (o ∷ os) pass) = ReindexBulk source p last pass (o ∷ os)
 
+-- ReindexRead
 abbrev pub from_read : {D Q : Type 0} → Settings D Q → Text → ℕ → Pass → Reply D → State D
 from_read s source p pass (Selected total []) = ReindexClose source p
 from_read s source p pass (Selected total (r ∷ rs)) = by_batch source p (last_of r.0 rs) (batch s pass (r ∷ rs))
 from_read s source p pass _ = Init
 
+-- ReindexBulk
 abbrev pub from_bulk : {D : Type 0} → Text → ℕ → Text → Pass → Reply D → State D
 from_bulk source p last pass (Items items) = ReindexRead source p (Some last) pass
 from_bulk source p last pass (Refused (Blocked name)) = ReindexClose source p
 from_bulk source p last pass (Refused (NoIndex name)) = ReindexClose source p
 from_bulk source p last pass _ = Init
 
+-- ReindexClose, and OutdatedClose
 abbrev pub from_close : {D : Type 0} → State D → Reply D → State D
 from_close next Reply.Done = next
 from_close next (Refused (NoPit p)) = next
 from_close next _ = Init
 
+-- SetTempBlock
 abbrev pub from_temp_block : {D : Type 0} → Text → Reply D → State D
 from_temp_block source Reply.Done = CloneTemp source
 from_temp_block source (Refused (NoIndex name)) = CloneTemp source
 from_temp_block source _ = Init
 
+-- CloneTemp
 abbrev pub from_clone : {D Q : Type 0} → Settings D Q → Text → Reply D → State D
 from_clone s source Reply.Done = OutdatedOpen (Switch source)
 from_clone s source (Refused (Exists name its)) = where_from (is_on source its) (OutdatedOpen (Switch source)) s.target its source
 from_clone s source (Refused (Refusal.NameTaken name)) = Ended (Fatal (Cause.NameTaken name))
 from_clone s source _ = Init
 
+-- OutdatedOpen
 abbrev pub from_outdated_open : {D : Type 0} → Finish → Reply D → State D
 from_outdated_open finish (Pit p) = OutdatedRead finish p None
 from_outdated_open finish _ = Init
@@ -326,6 +359,7 @@ abbrev pub unless_listed : {D : Type 0} → List Text → (List Text → Cause) 
 unless_listed [] cause state = state
 unless_listed (raw ∷ raws) cause state = Ended (Fatal (cause (raw ∷ raws)))
 
+-- OutdatedRead
 abbrev pub from_outdated_read : {D Q : Type 0} → Settings D Q → Finish → ℕ → Reply D → State D
 from_outdated_read s finish p (Selected total []) = OutdatedClose finish p
 from_outdated_read s finish p (Selected total (r ∷ rs)) =
@@ -336,14 +370,17 @@ from_outdated_read s finish p (Selected total (r ∷ rs)) =
     (OutdatedBulk finish p (last_of r.0 rs) (rewrites s (r ∷ rs))))))
 from_outdated_read s finish p _ = Init
 
+-- OutdatedBulk
 abbrev pub from_outdated_bulk : {D : Type 0} → Finish → ℕ → Text → Reply D → State D
 from_outdated_bulk finish p last (Items items) = OutdatedRead finish p (Some last)
 from_outdated_bulk finish p last _ = Init
 
+-- no outdated document is left
 abbrev pub after_outdated : {D : Type 0} → Finish → State D
 after_outdated (Stands index) = Ended (End.Done index)
 after_outdated (Switch source) = MarkReady (Some source)
 
+-- MarkReady
 abbrev pub from_mark : {D Q : Type 0} → Settings D Q → Reply D → State D
 from_mark s Reply.Done = Ended (End.Done s.target)
 from_mark s (Refused (AliasMissing alias index)) = MarkReadyConflict
@@ -352,15 +389,18 @@ from_mark s (Refused (NoIndex name)) = MarkReadyConflict
 from_mark s (Refused (Refusal.NameTaken name)) = Ended (Fatal (Cause.NameTaken name))
 from_mark s _ = Init
 
+-- by the current alias's index, and whether the version's alias is on it
 abbrev pub settled : {D : Type 0} → Option Text → Bool → State D
 settled None on = Ended (Fatal (OtherVersion None))
 settled (Some index) true = Ended (End.Done index)
 settled (Some index) false = Ended (Fatal (OtherVersion (Some index)))
 
+-- the version's alias is on the current alias's index
 abbrev pub is_on_some : Option Text → Option Text → Bool
 is_on_some None ver = false
 is_on_some (Some index) ver = is_on index ver
 
+-- MarkReadyConflict
 abbrev pub from_conflict : {D Q : Type 0} → Settings D Q → Reply D → State D
 from_conflict s (Seen indices aliases) = settled (at s.current aliases) (is_on_some (at s.current aliases) (at s.version aliases))
 from_conflict s _ = Init
@@ -392,9 +432,11 @@ pub record Machine (D : Type 0) : Type 0 where
   pub faults : ℕ
   pub delay_ms : ℕ
 
+-- a machine at its start
 abbrev pub started : {D : Type 0} → Machine D
 started = record { state = Init; faults = 0; delay_ms = 0 }
 
+-- the machine after a reply
 abbrev pub answered : {D Q : Type 0} → Settings D Q → Machine D → Reply D → Machine D
 answered s m reply = record { state = moved s m.state reply; faults = 0; delay_ms = m.delay_ms }
 

@@ -52,6 +52,7 @@ pub record Scenario (D Q C : Type 0) : Type 0 where
   pub instances : ℕ
   pub scripts : List C
 
+-- the world before any event
 abbrev pub first_world : {D Q C : Type 0} → Scenario D Q C → World D Q C
 first_world s = open_world (opening_store s.current s.opening) s.instances s.scripts
 
@@ -59,6 +60,7 @@ first_world s = open_world (opening_store s.current s.opening) s.instances s.scr
 abbrev pub world_after : {D Q C : Type 0} → Scenario D Q C → List Event → World D Q C
 world_after s events = run s.race (first_world s) events
 
+-- what is there before the first entry
 abbrev pub first_trace : {D Q C : Type 0} → Scenario D Q C → Trace D Q C
 first_trace s = open_trace (opening_store s.current s.opening) s.instances s.scripts
 

@@ -40,14 +40,17 @@ FreshWrite Fresh (Write.Create raw doc) = Fresh raw doc
 FreshWrite Fresh (Put raw doc expect) = Fresh raw doc
 FreshWrite Fresh (Delete raw expect) = Unit {0}
 
+-- so do writes
 unfoldable pub FreshWrites : {D : Type 0} → (Text → D → Type 0) → List (Write D) → Type 0
 FreshWrites Fresh [] = Unit {0}
 FreshWrites Fresh (w ∷ ws) = FreshWrite Fresh w × FreshWrites Fresh ws
 
+-- a row that was found is fresh
 abbrev pub FreshFound : {D : Type 0} → (Text → D → Type 0) → Option (Text × Cell D) → Type 0
 FreshFound Fresh None = Unit {0}
 FreshFound Fresh (Some r) = Fresh r.0 r.1.doc
 
+-- so are rows
 unfoldable pub AllFreshFound : {D : Type 0} → (Text → D → Type 0) → List (Option (Text × Cell D)) → Type 0
 AllFreshFound Fresh [] = Unit {0}
 AllFreshFound Fresh (r ∷ rs) = FreshFound Fresh r × AllFreshFound Fresh rs

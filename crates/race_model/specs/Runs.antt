@@ -9,6 +9,7 @@ use Rattle.race_model.specs.Worlds.{Race, Actor, Entry}
 use Rattle.race_model.specs.Worlds.Actor.{Instance, Client}
 use Rattle.race_model.specs.Migrated.{IsClean}
 
+-- the newest generation
 unfoldable pub last_generation : {D : Type 0} → Generations D → Option (Generation D)
 last_generation [] = None
 last_generation (g ∷ []) = Some g
@@ -32,6 +33,7 @@ MayMove v gs (Migrate w) = (w ≡ v) × CanMigrate v gs
 MayMove v gs (Install w) = (w ≡ v) × (gs ≡ [])
 MayMove v gs (Move.Ask ask) = ⊥
 
+-- an entry is a move that its actor may make
 abbrev pub EntryIs : {D Q C : Type 0} → Race D Q C → Generations D → Actor → Entry D Q → Move D Q → Type 0
 EntryIs race gs (Instance i) e m = MayMove (race.settings i) gs m
 EntryIs race gs (Client k) e m = (m ≡ Move.Ask e.request) × (e.reply ≡ told_by race.select gs e.request)

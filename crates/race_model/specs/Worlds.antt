@@ -17,6 +17,7 @@ pub record Race (D Q C : Type 0) : Type 0 where
   pub settings : (instance : ℕ) → Settings D Q
   pub clients : Clients D Q C
 
+-- who makes an entry
 pub data Actor : Type 0 where
   Instance : ℕ → Actor
   Client : ℕ → Actor
@@ -26,11 +27,13 @@ abbrev pub number_of : Actor → ℕ
 number_of (Instance i) = i
 number_of (Client k) = 100 + k
 
+-- whether the reply was heard, or the request came late
 pub data How : Type 0 where
   Heard : How
   Unheard : How
   Late : How
 
+-- a request that was done, with its reply
 pub record Entry (D Q : Type 0) : Type 0 where
   pub actor : Actor
   pub tag : ℕ
@@ -50,16 +53,19 @@ pub record Node (D Q : Type 0) : Type 0 where
   pub starts : ℕ
   pub sent : List (Sent D Q)
 
+-- a client: its script, and whether it was cut
 pub record Caller (C : Type 0) : Type 0 where
   pub script : C
   pub cut : Bool
 
+-- a store, its journal, the instances and the clients
 pub record World (D Q C : Type 0) : Type 0 where
   pub store : Store D
   pub journal : List (Entry D Q)
   pub nodes : List (Node D Q)
   pub callers : List (Caller C)
 
+-- what may happen next
 pub data Event : Type 0 where
   Step : (instance : ℕ) → Event
   Lost : (instance : ℕ) → (done : Bool) → Event
@@ -76,6 +82,7 @@ nth (x ∷ xs) zero = None
 nth (x ∷ xs) (suc zero) = Some x
 nth (x ∷ xs) (suc (suc n)) = nth xs (suc n)
 
+-- the list with another element at a place
 unfoldable pub with_nth : {A : Type 0} → List A → ℕ → A → List A
 with_nth [] n y = []
 with_nth (x ∷ xs) zero y = x ∷ xs
@@ -92,13 +99,16 @@ done race w actor tag how ask =
       callers = w.callers;
     }
 
+-- done, or lost on the way
 abbrev pub done_where : {D Q C : Type 0} → Bool → Race D Q C → World D Q C → Actor → ℕ → How → Request D Q → World D Q C
 done_where true race w actor tag how ask = done race w actor tag how ask
 done_where false race w actor tag how ask = w
 
+-- the world with this instance at place i
 abbrev pub with_node : {D Q C : Type 0} → World D Q C → ℕ → Node D Q → World D Q C
 with_node w i node = record { store = w.store; journal = w.journal; nodes = with_nth w.nodes i node; callers = w.callers }
 
+-- the world with this client at place k
 abbrev pub with_caller : {D Q C : Type 0} → World D Q C → ℕ → Caller C → World D Q C
 with_caller w k caller = record { store = w.store; journal = w.journal; nodes = w.nodes; callers = with_nth w.callers k caller }
 
@@ -107,36 +117,44 @@ abbrev pub sent_by : {D Q : Type 0} → Node D Q → Machine D → Request D Q �
 sent_by node m ask failed =
     record { machine = Some m; starts = node.starts; sent = node.sent ++ record { tag = node.starts; request = ask; failed = failed } ∷ [] }
 
+-- the request is done and its reply moves the machine
 abbrev pub stepped : {D Q C : Type 0} → Race D Q C → World D Q C → ℕ → Node D Q → Machine D → Option (Request D Q) → World D Q C
 stepped race w i node m None = w
 stepped race w i node m (Some ask) =
     with_node (done race w (Instance i) node.starts Heard ask) i (sent_by node (answered (race.settings i) m (serve race.select w.store ask).1) ask false)
 
+-- nothing where no machine runs
 abbrev pub step_machine : {D Q C : Type 0} → Race D Q C → World D Q C → ℕ → Node D Q → Option (Machine D) → World D Q C
 step_machine race w i node None = w
 step_machine race w i node (Some m) = stepped race w i node m (request (race.settings i) m.state)
 
+-- Step
 abbrev pub step : {D Q C : Type 0} → Race D Q C → World D Q C → ℕ → Option (Node D Q) → World D Q C
 step race w i None = w
 step race w i (Some node) = step_machine race w i node node.machine
 
+-- the send fails, whether or not the request was done
 abbrev pub lost : {D Q C : Type 0} → Race D Q C → World D Q C → ℕ → Bool → Node D Q → Machine D → Option (Request D Q) → World D Q C
 lost race w i was_done node m None = w
 lost race w i was_done node m (Some ask) =
     with_node (done_where was_done race w (Instance i) node.starts Unheard ask) i (sent_by node (failed (race.settings i) m) ask true)
 
+-- nothing where no machine runs
 abbrev pub lose_machine : {D Q C : Type 0} → Race D Q C → World D Q C → ℕ → Bool → Node D Q → Option (Machine D) → World D Q C
 lose_machine race w i was_done node None = w
 lose_machine race w i was_done node (Some m) = lost race w i was_done node m (request (race.settings i) m.state)
 
+-- Lost
 abbrev pub lose : {D Q C : Type 0} → Race D Q C → World D Q C → ℕ → Bool → Option (Node D Q) → World D Q C
 lose race w i was_done None = w
 lose race w i was_done (Some node) = lose_machine race w i was_done node node.machine
 
+-- a request that was sent is done late
 abbrev pub repeat : {D Q C : Type 0} → Race D Q C → World D Q C → ℕ → Option (Sent D Q) → World D Q C
 repeat race w i None = w
 repeat race w i (Some sent) = done race w (Instance i) sent.tag Late sent.request
 
+-- Again
 abbrev pub again : {D Q C : Type 0} → Race D Q C → World D Q C → ℕ → ℕ → Option (Node D Q) → World D Q C
 again race w i send None = w
 again race w i send (Some node) = repeat race w i (nth node.sent send)
@@ -151,14 +169,17 @@ abbrev pub stop_running : {D Q C : Type 0} → World D Q C → ℕ → Node D Q 
 stop_running w i node None = w
 stop_running w i node (Some ask) = with_node w i (record { machine = None; starts = node.starts; sent = node.sent })
 
+-- Stop
 abbrev pub stop : {D Q C : Type 0} → Race D Q C → World D Q C → ℕ → Option (Node D Q) → World D Q C
 stop race w i None = w
 stop race w i (Some node) = stop_running w i node (asked_by (race.settings i) node.machine)
 
+-- a new machine with the next tag, where none runs
 abbrev pub start_idle : {D Q C : Type 0} → World D Q C → ℕ → Node D Q → Option (Request D Q) → World D Q C
 start_idle w i node (Some ask) = w
 start_idle w i node None = with_node w i (record { machine = Some started; starts = node.starts + 1; sent = node.sent })
 
+-- Start
 abbrev pub start : {D Q C : Type 0} → Race D Q C → World D Q C → ℕ → Option (Node D Q) → World D Q C
 start race w i None = w
 start race w i (Some node) = start_idle w i node (asked_by (race.settings i) node.machine)
@@ -168,21 +189,25 @@ abbrev pub asked_of : {D Q C : Type 0} → Clients D Q C → Bool → C → Opti
 asked_of clients true script = None
 asked_of clients false script = clients.asks script
 
+-- the client's request is done and its reply told
 abbrev pub called : {D Q C : Type 0} → Race D Q C → World D Q C → ℕ → C → Option (Request D Q) → World D Q C
 called race w k script None = w
 called race w k script (Some ask) =
     with_caller (done race w (Client k) (race.clients.call script) Heard ask) k
     (record { script = race.clients.told script (serve race.select w.store ask).1; cut = false })
 
+-- Client
 abbrev pub call : {D Q C : Type 0} → Race D Q C → World D Q C → ℕ → Option (Caller C) → World D Q C
 call race w k None = w
 call race w k (Some caller) = called race w k caller.script (asked_of race.clients caller.cut caller.script)
 
+-- the client ends, whether or not its request was done
 abbrev pub cut_off : {D Q C : Type 0} → Race D Q C → World D Q C → ℕ → Bool → C → Option (Request D Q) → World D Q C
 cut_off race w k was_done script None = w
 cut_off race w k was_done script (Some ask) =
     with_caller (done_where was_done race w (Client k) (race.clients.call script) Unheard ask) k (record { script = script; cut = true })
 
+-- Cut
 abbrev pub cut : {D Q C : Type 0} → Race D Q C → World D Q C → ℕ → Bool → Option (Caller C) → World D Q C
 cut race w k was_done None = w
 cut race w k was_done (Some caller) = cut_off race w k was_done caller.script (asked_of race.clients caller.cut caller.script)
@@ -206,9 +231,11 @@ run race w (e ∷ es) = run race (happens race w e) es
 abbrev pub idle : {D Q : Type 0} → Node D Q
 idle = record { machine = None; starts = 0; sent = [] }
 
+-- clients that nothing cut
 abbrev pub callers_of : {C : Type 0} → List C → List (Caller C)
 callers_of [] = []
 callers_of (c ∷ cs) = record { script = c; cut = false } ∷ callers_of cs
 
+-- nothing has happened
 abbrev pub open_world : {D Q C : Type 0} → Store D → ℕ → List C → World D Q C
 open_world st instances scripts = record { store = st; journal = []; nodes = replicate instances idle; callers = callers_of scripts }

@@ -11,7 +11,22 @@ use Rattle.base_model.specs.Outcomes.Outcome.{Outputs}
 use Rattle.race_model.specs.Journals.{Has}
 use Rattle.race_model.specs.Worlds.{Race}
 use Rattle.race_model.specs.Sorted.{IsSorted, last_key}
-use Rattle.race_model.specs.Premises.{FreshWrites, Paged, NamesApart, VersionsInOrder, NotBelow, AsksOf}
+use Rattle.base_model.specs.Keyed.{at, put, text_lt}
+use Rattle.race_model.specs.Stores.{Index, serve}
+use Rattle.race_model.specs.Machines.{request}
+use Rattle.race_model.specs.Sorted.{Each, AllAbove}
+use Rattle.race_model.specs.Migrated.{IsGoodOutcome}
+use Rattle.race_model.specs.Journals.{Conforms, MayCome, state_of, all_followed}
+use Rattle.race_model.specs.History.{found_after_all, facts_from}
+use Rattle.race_model.specs.Worlds.{Entry, nth}
+use Rattle.race_model.specs.Worlds.Actor.{Instance}
+use Rattle.race_model.specs.Worlds.How.{Heard}
+use Rattle.race_model.specs.Openings.{Scenario, opening_store, IsJournal, trace_after, facts_since}
+use Rattle.race_model.specs.Openings.Opening.{OneGeneration}
+use Rattle.race_tables.proofs.Lists.{none_some, some_same}
+use Rattle.race_claims.specs.OneVersion.{IsOneVersion}
+use Rattle.race_claims.specs.Unhindered.{FindsUnknown, IsClear, OnlyTo, AtOwn, IsUnhindered}
+use Rattle.race_model.specs.Premises.{RaceLaws, IsFair, AllSound, Paged, FreshWrites, Paged, NamesApart, VersionsInOrder, NotBelow, AsksOf}
 use Rattle.race_tables.proofs.Keys.{same_true, same_refl}
 use Rattle.race_rows.proofs.Pages.{chosen, skips, none_taken, all_true}
 
@@ -45,12 +60,16 @@ sets = set_of 11 ∷ set_of 12 ∷ set_of 13 ∷ []
 abbrev asks : ℕ → Option (Request ℕ Q)
 asks c = if nat_lt c 3 then Some (Bulk (2 ∷ 12 ∷ []) (Write.Create (12 ∷ []) c ∷ [])) else None
 
-abbrev pub two_sets : Race ℕ Q ℕ
-two_sets = record {
+-- instances of version 12 where the test holds, and of version 13
+abbrev pub race_by : (ℕ → Bool) → Race ℕ Q ℕ
+race_by is_older = record {
   select = record { rows = λ q rows. chosen q.0 q.1 rows; total = λ q rows. length rows };
-  settings = λ i. if i == 1 then set_of 12 else set_of 13;
+  settings = λ i. if is_older i then set_of 12 else set_of 13;
   clients = record { asks = asks; told = λ c r. c + 1; call = λ c. c + 1 };
 }
+
+abbrev pub two_sets : Race ℕ Q ℕ
+two_sets = race_by (λ i. i == 1)
 
 -- each set is that of a version
 is_set : (v : Settings ℕ Q) → Has v sets → (n : ℕ) × (v ≡ set_of n)
@@ -125,21 +144,32 @@ unfolding chosen
 calm true after rows = refl
 calm false after rows = refl
 
+-- the opening: two rows of the first version
+abbrev rows : Rows ℕ
+rows = (10 ∷ [], record { seq = 0; doc = 1 }) ∷ (11 ∷ [], record { seq = 1; doc = 2 }) ∷ []
+
+abbrev pub two_versions : Scenario ℕ Q ℕ
+two_versions = record { race = two_sets; current = 1 ∷ []; sets = sets; opening = OneGeneration (set_of 11) (record { rows = rows; next = 2 }); instances = 2; scripts = 0 ∷ [] }
+
 -- the premises can be met
-pub two_sets_fair : FairSets two_sets (1 ∷ []) sets (λ v raw doc. true) (λ c. true)
+laws_by : (is_older : ℕ → Bool) → RaceLaws (race_by is_older) (1 ∷ []) (λ v. Has v sets) (λ v raw doc. IsTrue true) (λ c. IsTrue true)
 unfolding chosen
-two_sets_fair = record {
+laws_by is_older = record {
   names = example_names;
   order = example_order;
-  runs = λ i. runs (i == 1);
+  runs = λ i. runs (is_older i);
   page = λ v i before rest sorted. let e = is_set v i in
       (take 2 rest, drop 2 rest, sym (take-append-drop 2 rest), subst (λ z. chosen (z.page (last_key None before)).0 (z.page (last_key None before)).1 (before ++ rest) ≡ take 2 rest) (sym e.1) (ap (take 2) (skips before rest sorted)), none_taken rest);
-  selects_fresh = λ v i q rows a. all_true (chosen q.0 q.1 rows);
-  not_outdated = λ i after rows a. calm (i == 1) after rows;
+  selects_fresh = λ v i q docs a. all_true (chosen q.0 q.1 docs);
+  not_outdated = λ i after docs a. calm (is_older i) after docs;
   fresh_outputs = λ v i raw doc out h. refl;
   asks = λ c ask sound e. asked (nat_lt c 3) c ask e;
   told = λ c ask reply sound e f. refl;
 }
+
+pub fair : IsFair two_versions (λ v raw doc. true) (λ c. true)
+unfolding Has IsSorted AllAbove Each AllSound text_lt
+fair = record { laws = laws_by (λ i. i == 1); opens = (inl refl, ((refl, tt), (tt, tt)), (refl, (refl, tt))); sound = (refl, tt) }
 
 shorter : (rest : Rows ℕ) → (take 2 rest ≡ []) ⊎ (suc (length (drop 2 rest)) ≤ length rest)
 shorter [] = inl refl
@@ -152,5 +182,73 @@ unfolding chosen
 paged true before rest sorted = ap (take 2) (skips before rest sorted)
 paged false before rest sorted = ap (take 2) (skips before rest sorted)
 
-pub two_sets_paged : (i : ℕ) → Paged (view two_sets (two_sets.settings i)) (λ rows. length rows)
-two_sets_paged i = record { fewer = λ before rest sorted. (take 2 rest, drop 2 rest, sym (take-append-drop 2 rest), paged (i == 1) before rest sorted, shorter rest) }
+pub pages : (i : ℕ) → Paged two_sets.select (two_sets.settings i) (λ rows. length rows)
+pages i = record { fewer = λ before rest sorted. (take 2 rest, drop 2 rest, sym (take-append-drop 2 rest), paged (i == 1) before rest sorted, shorter rest) }
+
+-- each target's name has its version
+abbrev pub version_in : Text → Option Text
+version_in (k ∷ v ∷ []) = Some (v ∷ [])
+version_in _ = None
+
+pub knows : (v : Settings ℕ Q) → Has v sets → (version : Text) × (version_in v.target ≡ Some version)
+knows v i = let e = is_set v i in (e.0 ∷ [], subst (λ z. version_in z.target ≡ Some (e.0 ∷ [])) (sym e.1) refl)
+
+found : (b : Bool) (docs : Rows ℕ) → chosen (if b then set_of 12 else set_of 13).unknown.0 (if b then set_of 12 else set_of 13).unknown.1 docs ≡ []
+unfolding chosen
+found true docs = refl
+found false docs = refl
+
+pub finds : (i : ℕ) → FindsUnknown two_sets.select (two_sets.settings i)
+finds i docs good = found (i == 1) docs
+
+-- the first entry of a start of instance 1, at which nothing stands against it
+abbrev first : Entry ℕ Q
+first = record { actor = Instance 1; tag = 1; how = Heard; request = Request.State; reply = (serve two_sets.select (opening_store (1 ∷ []) two_versions.opening) Request.State).1 }
+
+pub first_conforms : IsJournal two_versions (first ∷ [])
+unfolding Conforms MayCome nth request serve state_of
+first_conforms = (((arith_le, refl), refl), tt)
+  where
+    arith_le : 0 ≤ 1
+    arith_le = omega arith
+
+all_good : (docs : Rows ℕ) → Each (λ raw doc. IsGoodOutcome ((set_of 12).outcome raw doc)) docs
+unfolding Each
+all_good [] = tt
+all_good (r ∷ docs) = (tt, all_good docs)
+
+pub clear : IsClear (set_of 12) (3 ∷ 11 ∷ []) (opening_store (1 ∷ []) two_versions.opening) Request.State
+unfolding at same
+clear = record {
+  own_source = λ looks n index kind e. elim kind [ inl is ↦ absurd (no_temp n index is e) | inr is ↦ absurd (no_target n index is e) ];
+  good = λ index e. all_good index.table.rows;
+  clean = λ index e b. absurd (still_open index e b);
+}
+  where
+    no_temp : (n : Text) (index : Index ℕ) → n ≡ 4 ∷ 12 ∷ [] → at n (opening_store (1 ∷ []) two_versions.opening).indices ≡ Some index → ⊥
+    no_temp n index is e = none_some index (at (4 ∷ 12 ∷ []) (opening_store (1 ∷ []) two_versions.opening).indices) refl (subst (λ m. at m (opening_store (1 ∷ []) two_versions.opening).indices ≡ Some index) is e)
+
+    no_target : (n : Text) (index : Index ℕ) → n ≡ 3 ∷ 12 ∷ [] → at n (opening_store (1 ∷ []) two_versions.opening).indices ≡ Some index → ⊥
+    no_target n index is e = none_some index (at (3 ∷ 12 ∷ []) (opening_store (1 ∷ []) two_versions.opening).indices) refl (subst (λ m. at m (opening_store (1 ∷ []) two_versions.opening).indices ≡ Some index) is e)
+
+    still_open : (index : Index ℕ) → at (3 ∷ 11 ∷ []) (opening_store (1 ∷ []) two_versions.opening).indices ≡ Some index → index.blocked ≡ true → ⊥
+    still_open index e b =
+        let is : record { blocked = false; source = None; table = record { rows = rows; next = 2 } } ≡ index = some_same _ index (at (3 ∷ 11 ∷ []) (opening_store (1 ∷ []) two_versions.opening).indices) refl e in
+        let x : false ≡ true = ap (λ (z : Index ℕ). z.blocked) is ∙ b in
+        cc
+
+pub unhindered : IsUnhindered two_sets 1 1 (set_of 12) (facts_since two_versions version_in [] (first ∷ [])) (trace_after two_versions []) (first ∷ []) (at (1 ∷ []) (trace_after two_versions []).store.aliases)
+unfolding all_followed facts_from OnlyTo AtOwn at put same text_lt found_after_all
+unhindered = inr (refl, tt, ((λ own. clear), tt))
+
+-- every instance is of version 12, above the opening's
+abbrev pub one_version : Scenario ℕ Q ℕ
+one_version = record { race = race_by (λ i. true); current = 1 ∷ []; sets = sets; opening = OneGeneration (set_of 11) (record { rows = rows; next = 2 }); instances = 2; scripts = 0 ∷ [] }
+
+pub one_fair : IsFair one_version (λ v raw doc. true) (λ c. true)
+unfolding Has IsSorted AllAbove Each AllSound text_lt
+one_fair = record { laws = laws_by (λ i. true); opens = (inl refl, ((refl, tt), (tt, tt)), (refl, (refl, tt))); sound = (refl, tt) }
+
+pub one_is : IsOneVersion one_version (set_of 12)
+unfolding same
+one_is = record { all = λ i. refl; above = (refl, refl) }

@@ -1,3 +1,6 @@
-pub mod Rows
+pub mod Sample
+pub mod Upgrades
+pub mod Versions
+pub mod Deleting
 pub mod Pages
 pub mod Example

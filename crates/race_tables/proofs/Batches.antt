@@ -7,50 +7,50 @@ use Rattle.race_model.specs.Machines.{Settings, Cause, Pass, Batch, is_unknown, 
 use Rattle.base_model.specs.Outcomes.Outcome.{Removed, Unknown, TooNew, Corrupt, Outputs}
 use Rattle.race_model.specs.Machines.Cause.{UnknownObjects, CorruptObjects, NewerObjects, Collision}
 use Rattle.race_model.specs.Machines.Batch.{Good, Bad}
-use Rattle.race_model.specs.Migrated.{outs}
+use Rattle.race_model.specs.Migrated.{outs, NoneHas, AllApart, IsGoodOutcome}
 use Rattle.race_model.specs.Sorted.{Each, last_key}
 use Rattle.race_tables.proofs.Keys.{same_is, same_refl, at_put}
-use Rattle.race_tables.proofs.Outputs.{Lacks, Distinct, IsGood, AllGood, PassOf, MayFail}
+use Rattle.race_tables.proofs.Outputs.{AllGood, PassOf, MayFail}
 use Rattle.base_model.specs.Outcomes.{Outcome}
 
 same_sym_false : (a b : Text) → same a b ≡ false → same b a ≡ false
 same_sym_false a b e = grind (arith, same_is b a, same_refl a)
 
-lacks_end : {D : Type 0} (raw : Text) (os : List (Text × D)) (o : Text × D) → Lacks raw os → same raw o.0 ≡ false → Lacks raw (os ++ o ∷ [])
-unfolding Lacks
+lacks_end : {D : Type 0} (raw : Text) (os : List (Text × D)) (o : Text × D) → NoneHas raw os → same raw o.0 ≡ false → NoneHas raw (os ++ o ∷ [])
+unfolding NoneHas
 lacks_end raw [] o l e = (e, tt)
 lacks_end raw (x ∷ os) o l e = (l.0, lacks_end raw os o l.1 e)
 
-distinct_end : {D : Type 0} (os : List (Text × D)) (o : Text × D) → Distinct os → Lacks o.0 os → Distinct (os ++ o ∷ [])
-unfolding Distinct Lacks
+distinct_end : {D : Type 0} (os : List (Text × D)) (o : Text × D) → AllApart os → NoneHas o.0 os → AllApart (os ++ o ∷ [])
+unfolding AllApart NoneHas
 distinct_end [] o d l = (tt, tt)
 distinct_end (x ∷ os) o d l = (lacks_end x.0 os o d.0 (same_sym_false o.0 x.0 l.0), distinct_end os o d.1 l.1)
 
 pass_end : {D : Type 0} (pass : Pass) (source : Text) (os : List (Text × D)) (o : Text × D) → PassOf pass os → PassOf (put o.0 source pass) (os ++ o ∷ [])
 pass_end pass source os o k raw e = by (same raw o.0) refl (sym (at_put raw o.0 source pass) ∙ e)
   where
-    by : (t : Bool) → same raw o.0 ≡ t → (if t then Some source else at raw pass) ≡ None → Lacks raw (os ++ o ∷ [])
+    by : (t : Bool) → same raw o.0 ≡ t → (if t then Some source else at raw pass) ≡ None → NoneHas raw (os ++ o ∷ [])
     by true q f = absurd (cc)
     by false q f = lacks_end raw os o (k raw f) q
 
 -- outputs that meet none before
-pub no_collision : {D : Type 0} (pass : Pass) (source : Text) (done os : List (Text × D)) → collision pass source os ≡ None → Distinct done → PassOf pass done
-    → Distinct (done ++ os) × PassOf (pass_after pass source os) (done ++ os)
+pub no_collision : {D : Type 0} (pass : Pass) (source : Text) (done os : List (Text × D)) → collision pass source os ≡ None → AllApart done → PassOf pass done
+    → AllApart (done ++ os) × PassOf (pass_after pass source os) (done ++ os)
 unfolding collision pass_after
 no_collision pass source done [] e d k = rw append-nil (d, k)
 no_collision pass source done (o ∷ os) e d k = by (at o.0 pass) refl e
     (λ none rest. rw (← (append_assoc done (o ∷ []) os)) (no_collision (put o.0 source pass) source (done ++ o ∷ []) os rest (distinct_end done o d (k o.0 none)) (pass_end pass source done o k)))
   where
     by : (x : Option Text) → at o.0 pass ≡ x → met x source o.0 (collision (put o.0 source pass) source os) ≡ None
-        → (at o.0 pass ≡ None → collision (put o.0 source pass) source os ≡ None → Distinct (done ++ (o ∷ os)) × PassOf (pass_after (put o.0 source pass) source os) (done ++ (o ∷ os)))
-        → Distinct (done ++ (o ∷ os)) × PassOf (pass_after (put o.0 source pass) source os) (done ++ (o ∷ os))
+        → (at o.0 pass ≡ None → collision (put o.0 source pass) source os ≡ None → AllApart (done ++ (o ∷ os)) × PassOf (pass_after (put o.0 source pass) source os) (done ++ (o ∷ os)))
+        → AllApart (done ++ (o ∷ os)) × PassOf (pass_after (put o.0 source pass) source os) (done ++ (o ∷ os))
     by (Some first) q f rest = absurd (cc)
     by None q f rest = rest q f
 
 -- what a good batch says
 pub record GoodBatch {D Q : Type 0} (s : Settings D Q) (done : List (Text × D)) (rows : Rows D) (os : List (Text × D)) (pass : Pass) : Type 0 where
   pub outputs : os ≡ outs s rows
-  pub apart : Distinct (done ++ outs s rows)
+  pub apart : AllApart (done ++ outs s rows)
   pub known : PassOf pass (done ++ outs s rows)
 
 unless_good : {D : Type 0} (x : Option Cause) (b : Batch D) (os : List (Text × D)) (pass : Pass) → unless x b ≡ Good os pass → (x ≡ None) × (b ≡ Good os pass)
@@ -64,7 +64,7 @@ front_good front (Good rest p) os pass e =
     (rest, ap (Good rest) same_pass, sym same_os)
 front_good front (Bad c) os pass e = absurd (cc)
 
-pub gathered_good : {D Q : Type 0} (s : Settings D Q) (pass : Pass) (done : List (Text × D)) (rows : Rows D) (os : List (Text × D)) (after : Pass) → gathered s pass rows ≡ Good os after → Distinct done → PassOf pass done → GoodBatch s done rows os after
+pub gathered_good : {D Q : Type 0} (s : Settings D Q) (pass : Pass) (done : List (Text × D)) (rows : Rows D) (os : List (Text × D)) (after : Pass) → gathered s pass rows ≡ Good os after → AllApart done → PassOf pass done → GoodBatch s done rows os after
 unfolding gathered outs
 gathered_good s pass done [] os after e d k =
     let same_os : [] ≡ os = cc in
@@ -82,7 +82,7 @@ gathered_good {D = D} s pass done (r ∷ rows) os after e d k =
       known = rw (← (append_assoc done front (outs s rows))) g.known;
     }
 
-good_outcome : {D : Type 0} (o : Outcome D) → is_unknown o ≡ false → is_corrupt o ≡ false → is_newer o ≡ false → IsGood o
+good_outcome : {D : Type 0} (o : Outcome D) → is_unknown o ≡ false → is_corrupt o ≡ false → is_newer o ≡ false → IsGoodOutcome o
 good_outcome Removed u c n = tt
 good_outcome Unknown u c n = absurd (cc)
 good_outcome TooNew u c n = absurd (cc)
@@ -108,14 +108,14 @@ where_none_good : {D : Type 0} (raws : List Text) (cause : List Text → Cause) 
 where_none_good [] cause rest os pass e = (refl, e)
 where_none_good (raw ∷ raws) cause rest os pass e = absurd (cc)
 
-pub batch_good : {D Q : Type 0} (s : Settings D Q) (pass : Pass) (done : List (Text × D)) (rows : Rows D) (os : List (Text × D)) (after : Pass) → batch s pass rows ≡ Good os after → Distinct done → PassOf pass done → GoodBatch s done rows os after × AllGood s rows
+pub batch_good : {D Q : Type 0} (s : Settings D Q) (pass : Pass) (done : List (Text × D)) (rows : Rows D) (os : List (Text × D)) (after : Pass) → batch s pass rows ≡ Good os after → AllApart done → PassOf pass done → GoodBatch s done rows os after × AllGood s rows
 unfolding batch
 batch_good s pass done rows os after e d k =
     let u = where_none_good (raws_where (λ raw doc. is_unknown (s.outcome raw doc)) rows) UnknownObjects _ os after e in
     let c = where_none_good (raws_where (λ raw doc. is_corrupt (s.outcome raw doc)) rows) CorruptObjects _ os after u.1 in
     let n = where_none_good (raws_where (λ raw doc. is_newer (s.outcome raw doc)) rows) NewerObjects _ os after c.1 in (
       gathered_good s pass done rows os after n.1 d k,
-      each_three (λ raw doc. is_unknown (s.outcome raw doc) ≡ false) (λ raw doc. is_corrupt (s.outcome raw doc) ≡ false) (λ raw doc. is_newer (s.outcome raw doc) ≡ false) (λ raw doc. IsGood (s.outcome raw doc)) rows
+      each_three (λ raw doc. is_unknown (s.outcome raw doc) ≡ false) (λ raw doc. is_corrupt (s.outcome raw doc) ≡ false) (λ raw doc. is_newer (s.outcome raw doc) ≡ false) (λ raw doc. IsGoodOutcome (s.outcome raw doc)) rows
           (λ raw doc. good_outcome (s.outcome raw doc)) (none_where (λ raw doc. is_unknown (s.outcome raw doc)) rows u.0) (none_where (λ raw doc. is_corrupt (s.outcome raw doc)) rows c.0) (none_where (λ raw doc. is_newer (s.outcome raw doc)) rows n.0),
     )
 

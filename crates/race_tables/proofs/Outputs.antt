@@ -1,43 +1,26 @@
 -- The outputs of rows: clean rows, a pass over them, and a table of all of them.
-use Rattle.std.proofs.Common.{◌≡◌, List, [], ◌∷◌, ◌++◌, false, Some, None, refl, sym, ◌∙◌, ap, append_assoc}
-use Rattle.base_model.specs.Keyed.{Text, Keyed, same, at}
+use Rattle.std.proofs.Common.{◌≡◌, List, [], ◌∷◌, ◌++◌, Some, None, refl, sym, ◌∙◌, ap, append_assoc}
+use Rattle.base_model.specs.Keyed.{Text, Keyed, at}
 use Rattle.race_model.specs.Stores.{Rows, Table, Index}
 use Rattle.race_model.specs.Machines.{Settings, Cause, Pass, outputs_of}
-use Rattle.base_model.specs.Outcomes.Outcome.{Removed, Outputs, Unknown, TooNew, Corrupt}
 use Rattle.race_model.specs.Machines.Cause.{UnknownObjects, CorruptObjects, NewerObjects, Collision}
 use Rattle.race_model.specs.Migrated.{outs, IsGoodOutcome, NoneHas, AllApart, IsClean}
 use Rattle.race_model.specs.Sorted.{IsSorted, Each}
-use Rattle.race_tables.proofs.Tables.{Only, Holds, AllHas, each_more}
-use Rattle.base_model.specs.Outcomes.{Outcome}
+use Rattle.race_tables.proofs.Tables.{Only, Holds, AllHas}
 use mathlib.Core.Logic.◌⊎◌.{inl, inr}
 use Rattle.race_model.specs.Journals.{Has}
 
--- no output of these has the raw id
-unfoldable pub Lacks : {D : Type 0} → Text → List (Text × D) → Type 0
-Lacks raw [] = Unit {0}
-Lacks raw (o ∷ os) = (same raw o.0 ≡ false) × Lacks raw os
-
--- the raw ids of these outputs are different
-unfoldable pub Distinct : {D : Type 0} → List (Text × D) → Type 0
-Distinct [] = Unit {0}
-Distinct (o ∷ os) = Lacks o.0 os × Distinct os
-
-abbrev pub IsGood : {D : Type 0} → Outcome D → Type 0
-IsGood Removed = Unit {0}
-IsGood (Outputs os) = Unit {0}
-IsGood _ = ⊥
-
 abbrev pub AllGood : {D Q : Type 0} → Settings D Q → Rows D → Type 0
-AllGood s rows = Each (λ raw doc. IsGood (s.outcome raw doc)) rows
+AllGood s rows = Each (λ raw doc. IsGoodOutcome (s.outcome raw doc)) rows
 
 -- the rows can be migrated: each gives outputs or is removed, and no two outputs meet
 pub record Clean {D Q : Type 0} (s : Settings D Q) (rows : Rows D) : Type 0 where
   pub good : AllGood s rows
-  pub apart : Distinct (outs s rows)
+  pub apart : AllApart (outs s rows)
 
 -- the pass knows each of these raw ids
 abbrev pub PassOf : {D : Type 0} → Pass → List (Text × D) → Type 0
-PassOf pass os = (raw : Text) → at raw pass ≡ None → Lacks raw os
+PassOf pass os = (raw : Text) → at raw pass ≡ None → NoneHas raw os
 
 -- an index is there
 abbrev pub Is : {D : Type 0} → Keyed (Index D) → Text → Type 0
@@ -73,22 +56,5 @@ unfolding outs
 outs_append s [] ys = refl
 outs_append s (x ∷ xs) ys = ap (λ os. outputs_of (s.outcome x.0 x.1.doc) ++ os) (outs_append s xs ys) ∙ sym (append_assoc (outputs_of (s.outcome x.0 x.1.doc)) (outs s xs) (outs s ys))
 
-good_outcome : {D : Type 0} (o : Outcome D) → IsGood o → IsGoodOutcome o
-good_outcome Removed g = g
-good_outcome (Outputs os) g = g
-good_outcome Unknown g = absurd g
-good_outcome TooNew g = absurd g
-good_outcome Corrupt g = absurd g
-
-none_has : {D : Type 0} (raw : Text) (os : List (Text × D)) → Lacks raw os → NoneHas raw os
-unfolding Lacks NoneHas
-none_has raw [] a = tt
-none_has raw (o ∷ os) a = (a.0, none_has raw os a.1)
-
-all_apart : {D : Type 0} (os : List (Text × D)) → Distinct os → AllApart os
-unfolding Distinct AllApart
-all_apart [] a = tt
-all_apart (o ∷ os) a = (none_has o.0 os a.0, all_apart os a.1)
-
 pub is_clean : {D Q : Type 0} (s : Settings D Q) (rows : Rows D) → Clean s rows → IsClean s rows
-is_clean s rows c = (each_more (λ raw doc. IsGood (s.outcome raw doc)) (λ raw doc. IsGoodOutcome (s.outcome raw doc)) rows (λ raw doc. good_outcome (s.outcome raw doc)) c.good, all_apart (outs s rows) c.apart)
+is_clean s rows c = (c.good, c.apart)

@@ -4,12 +4,12 @@ use mathlib.Core.Logic.◌⊎◌.{inl, inr}
 use Rattle.base_model.specs.Keyed.{Text, Keyed, same, text_lt, at, put}
 use Rattle.race_model.specs.Stores.{Cell, Rows, Table, numbered, renumbered}
 use Rattle.race_model.specs.Machines.{Settings}
-use Rattle.race_model.specs.Migrated.{outs, collected, cells, migrated}
+use Rattle.race_model.specs.Migrated.{outs, collected, cells, migrated, NoneHas, AllApart}
 use Rattle.race_model.specs.Journals.{Has}
 use Rattle.race_model.specs.Sorted.{AllAbove, IsSorted}
 use Rattle.race_tables.proofs.Keys.{same_is, same_true, same_refl, same_false, at_put, at_put_same, at_put_other}
 use Rattle.race_tables.proofs.Tables.{Holds, sorted_put, lt_trans, lt_irrefl, each_at}
-use Rattle.race_tables.proofs.Outputs.{Lacks, Distinct, Whole}
+use Rattle.race_tables.proofs.Outputs.{Whole}
 
 above_at : {V : Type 0} (k q : Text) (v : V) (es : Keyed V) → AllAbove k es → at q es ≡ Some v → text_lt k q ≡ true
 unfolding AllAbove at
@@ -117,20 +117,20 @@ unfolding collected IsSorted
 sorted_collected [] = tt
 sorted_collected (o ∷ os) = sorted_put o.0 o.1 (collected os) (sorted_collected os)
 
-lacks_collected : {D : Type 0} (q : Text) (os : List (Text × D)) → Lacks q os → at q (collected os) ≡ None
-unfolding collected Lacks at
+lacks_collected : {D : Type 0} (q : Text) (os : List (Text × D)) → NoneHas q os → at q (collected os) ≡ None
+unfolding collected NoneHas at
 lacks_collected q [] l = refl
 lacks_collected q (o ∷ os) l = rw (at_put q o.0 o.1 (collected os), l.0) (lacks_collected q os l.1)
 
 -- an output that is there isn't lacking
-has_lacks : {D : Type 0} {B : Type 0} (q : Text) (d : D) (os : List (Text × D)) → Has (q, d) os → Lacks q os → B
-unfolding Has Lacks
+has_lacks : {D : Type 0} {B : Type 0} (q : Text) (d : D) (os : List (Text × D)) → Has (q, d) os → NoneHas q os → B
+unfolding Has NoneHas
 has_lacks q d [] h l = absurd h
 has_lacks q d (o ∷ os) (inl e) l = absurd (let f : q ≡ o.0 = ap (λ x. x.0) e in let g : same q q ≡ false = subst (λ k. same q k ≡ false) (sym f) l.0 in let k : same q q ≡ true = same_refl q in cc)
 has_lacks q d (o ∷ os) (inr h) l = has_lacks q d os h l.1
 
-has_collected : {D : Type 0} (q : Text) (d : D) (os : List (Text × D)) → Distinct os → Has (q, d) os → at q (collected os) ≡ Some d
-unfolding Has Distinct collected
+has_collected : {D : Type 0} (q : Text) (d : D) (os : List (Text × D)) → AllApart os → Has (q, d) os → at q (collected os) ≡ Some d
+unfolding Has AllApart collected
 has_collected q d [] a h = absurd h
 has_collected q d (o ∷ os) a (inl e) = subst (λ x. at x.0 (put o.0 o.1 (collected os)) ≡ Some x.1) (sym e) (at_put_same o.0 o.1 (collected os))
 has_collected q d (o ∷ os) a (inr h) = elim (same_is q o.0) [
@@ -138,8 +138,8 @@ has_collected q d (o ∷ os) a (inr h) = elim (same_is q o.0) [
   | inr p ↦ at_put_other q o.0 o.1 (collected os) p.1 ∙ has_collected q d os a.1 h
 ]
 
-holds_lacks : {D : Type 0} (q : Text) (os : List (Text × D)) (rows : Rows D) → Holds os rows → at q rows ≡ None → Lacks q os
-unfolding Holds Lacks
+holds_lacks : {D : Type 0} (q : Text) (os : List (Text × D)) (rows : Rows D) → Holds os rows → at q rows ≡ None → NoneHas q os
+unfolding Holds NoneHas
 holds_lacks q [] rows h e = tt
 holds_lacks q (o ∷ os) rows h e = (
   elim (same_is q o.0) [
