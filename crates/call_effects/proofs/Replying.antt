@@ -9,41 +9,42 @@ use Rattle.race_model.specs.Sorted.{AllAbove, IsSorted}
 use Rattle.race_tables.proofs.Keys.{same_refl}
 use Rattle.document_model.specs.Documents.{Doc}
 use Rattle.query_model.specs.Queries.{Query, Holds, in_order, chosen, limited, select}
-use Rattle.call_model.specs.Replies.{rises_from, rises, at_most, is_of, are_of, fits_item, fits_items, fits_reply}
+use Rattle.race_model.specs.Replies.{rising_from, rising, within, fits_found, fits_all_found, fits_item, fits_items, fits_reply}
 
 -- at most as many rows as each query takes
 abbrev pub Limits : {D Q : Type 0} → (Q → Option ℕ) → Select D Q → Type 0
-Limits limit_of sel = (q : _) (rows : Rows _) → at_most (limit_of q) (sel.rows q rows) ≡ true
+Limits limit_of sel = (q : _) (rows : Rows _) → within (limit_of q) (length (sel.rows q rows)) ≡ true
 
-rising_from : {V : Type 0} (k : Text) (es : Keyed V) → AllAbove k es → IsSorted es → rises_from (Some k) es ≡ true
-unfolding AllAbove IsSorted
-rising_from k [] a s = refl
-rising_from k (e ∷ es) a s = rw a.0 (rising_from e.0 es s.0 s.1)
+names_rise_from : {V : Type 0} (k : Text) (es : Keyed V) → AllAbove k es → IsSorted es → rising_from k es ≡ true
+unfolding AllAbove IsSorted rising_from
+names_rise_from k [] a s = refl
+names_rise_from k (e ∷ es) a s = rw a.0 (names_rise_from e.0 es s.0 s.1)
 
-rising : {V : Type 0} (es : Keyed V) → IsSorted es → rises es ≡ true
+names_rise : {V : Type 0} (es : Keyed V) → IsSorted es → rising es ≡ true
 unfolding IsSorted
-rising [] s = refl
-rising (e ∷ es) s = rising_from e.0 es s.0 s.1
+names_rise [] s = refl
+names_rise (e ∷ es) s = names_rise_from e.0 es s.0 s.1
 
 sym_test : (s n : ℕ) → (s == n) ≡ false → not (n == s) ≡ true
 sym_test s n e = let f : (n == s) ≡ false = grind (arith, nat_tests) in rw f refl
 
 module _ {D : Type 0} where
-  seen_rising : (k : Text) (es : Keyed (Index D)) → AllAbove k es → IsSorted es → rises_from (Some k) (seen es) ≡ true
-  unfolding AllAbove IsSorted
+  seen_rising : (k : Text) (es : Keyed (Index D)) → AllAbove k es → IsSorted es → rising_from k (seen es) ≡ true
+  unfolding AllAbove IsSorted rising_from
   seen_rising k [] a s = refl
   seen_rising k (e ∷ es) a s = rw a.0 (seen_rising e.0 es s.0 s.1)
 
-  all_seen : (es : Keyed (Index D)) → IsSorted es → rises (seen es) ≡ true
+  all_seen : (es : Keyed (Index D)) → IsSorted es → rising (seen es) ≡ true
   unfolding IsSorted
   all_seen [] s = refl
   all_seen (e ∷ es) s = seen_rising e.0 es s.0 s.1
 
-  found_is_of : (o : Option (Cell D)) (raw : Text) → is_of raw (found_one o raw) ≡ true
+  found_is_of : (o : Option (Cell D)) (raw : Text) → fits_found raw (found_one o raw) ≡ true
   found_is_of None raw = refl
   found_is_of (Some c) raw = same_refl raw
 
-  found_are_of : (rows : Rows D) (raws : List Text) → are_of raws (found rows raws) ≡ true
+  found_are_of : (rows : Rows D) (raws : List Text) → fits_all_found raws (found rows raws) ≡ true
+  unfolding fits_all_found
   found_are_of rows [] = refl
   found_are_of rows (raw ∷ raws) = rw (found_is_of (at raw rows) raw) (found_are_of rows raws)
 
@@ -78,7 +79,7 @@ module _ {D : Type 0} where
   item_fits t (Write.Delete raw expect) = item_delete (at raw t.rows) t raw expect
 
   items_fit : (t : Table D) (writes : List (Write D)) → fits_items writes (items_of t writes) ≡ true
-  unfolding items_of
+  unfolding items_of fits_items
   items_fit t [] = refl
   items_fit t (x ∷ writes) = rw (item_fits t x) (items_fit (write t x).0 writes)
 
@@ -96,7 +97,7 @@ module _ {D Q : Type 0} (limit_of : Q → Option ℕ) (sel : Select D Q) (limits
 
   -- a generation's replies to reads and bulks
   pub told_fits : (gs : Generations D) (ask : Request D Q) → IsClients ask → Fits ask (told_by sel gs ask)
-  unfolding told_by fits_reply
+  unfolding told_by
   told_fits gs Request.Ping i = refl
   told_fits gs (Request.Get name raws) i = by (of_alias name gs)
     where
@@ -127,18 +128,15 @@ module _ {D Q : Type 0} (limit_of : Q → Option ℕ) (sel : Select D Q) (limits
   told_fits gs (Request.Aliases actions) i = absurd i
 
   create_fits : (name : Text) (source : Option Text) (st : Store D) (o : Option (Index D)) (a : Option Text) → Fits (Request.Create name source) (create_over o a st name source).1
-  unfolding fits_reply
   create_fits name source st (Some ix) a = refl
   create_fits name source st None (Some i) = refl
   create_fits name source st None None = refl
 
   block_fits : (name : Text) (st : Store D) (o : Option (Index D)) → Fits (Request.Block name) (block_over o st name).1
-  unfolding fits_reply
   block_fits name st None = refl
   block_fits name st (Some ix) = refl
 
   clone_fits : (source goal : Text) (st : Store D) (o : Option (Index D)) (a : Option Text) (from : Option (Index D)) → Fits (Request.Clone source goal) (clone_over o a from st source goal).1
-  unfolding fits_reply
   clone_fits source goal st (Some ix) a from = refl
   clone_fits source goal st None (Some i) from = refl
   clone_fits source goal st None None None = refl
@@ -149,32 +147,26 @@ module _ {D Q : Type 0} (limit_of : Q → Option ℕ) (sel : Select D Q) (limits
       by false = refl
 
   open_fits : (name : Text) (st : Store D) (o : Option (Index D)) → Fits (Request.OpenPit name) (open_over o st name).1
-  unfolding fits_reply
   open_fits name st None = refl
   open_fits name st (Some ix) = refl
 
   read_fits : (p : ℕ) (query : Q) (o : Option (Rows D)) → Fits (Request.ReadPit p query) (read_over sel o p query)
-  unfolding fits_reply
   read_fits p query None = refl
   read_fits p query (Some rows) = limits query rows
 
   close_fits : (p : ℕ) (st : Store D) (o : Option (Rows D)) → Fits (Request.ClosePit p) (close_over o st p).1
-  unfolding fits_reply
   close_fits p st None = refl
   close_fits p st (Some rows) = refl
 
   get_fits : (name : Text) (raws : List Text) (o : Option (Index D)) → Fits (Request.Get name raws) (get_over o name raws)
-  unfolding fits_reply
   get_fits name raws None = refl
   get_fits name raws (Some ix) = found_are_of ix.table.rows raws
 
   search_fits : (name : Text) (query : Q) (o : Option (Index D)) → Fits (Request.Search name query) (search_over sel o name query)
-  unfolding fits_reply
   search_fits name query None = refl
   search_fits name query (Some ix) = limits query ix.table.rows
 
   bulk_fits : (name index : Text) (writes : List (Write D)) (st : Store D) (o : Option (Index D)) → Fits (Request.Bulk name writes) (bulk_over o st name index writes).1
-  unfolding fits_reply
   bulk_fits name index writes st None = refl
   bulk_fits name index writes st (Some ix) = by ix.blocked
     where
@@ -188,7 +180,6 @@ module _ {D Q : Type 0} (limit_of : Q → Option ℕ) (sel : Select D Q) (limits
   ForAliases (Stuck why) = (actions : List Action) → Fits (Request.Aliases actions) (Reply.Refused why)
 
   remove_may : (st : Store D) (alias index : Text) (o : Option Text) → ForAliases (remove_over o st alias index)
-  unfolding fits_reply
   remove_may st alias index None = λ actions. refl
   remove_may st alias index (Some i) = by (same i index)
     where
@@ -197,7 +188,6 @@ module _ {D Q : Type 0} (limit_of : Q → Option ℕ) (sel : Select D Q) (limits
       by false = λ actions. refl
 
   add_may : (st : Store D) (alias index : Text) (o named : Option (Index D)) (held : Option Text) → ForAliases (add_over o named held st alias index)
-  unfolding fits_reply
   add_may st alias index None named held = λ actions. refl
   add_may st alias index (Some ix) (Some iy) held = λ actions. refl
   add_may st alias index (Some ix) None None = tt
@@ -208,7 +198,6 @@ module _ {D Q : Type 0} (limit_of : Q → Option ℕ) (sel : Select D Q) (limits
       by false = λ actions. refl
 
   drop_may : (st : Store D) (index : Text) (o : Option (Index D)) → ForAliases (drop_over o st index)
-  unfolding fits_reply
   drop_may st index None = λ actions. refl
   drop_may st index (Some ix) = tt
 
@@ -225,15 +214,14 @@ module _ {D Q : Type 0} (limit_of : Q → Option ℕ) (sel : Select D Q) (limits
   all_may (x ∷ actions) (Now st) k = all_may actions (act st x) (act_may st x)
 
   acted_fits : (actions : List Action) (st : Store D) (a : Acted D) → ForAliases a → Fits (Request.Aliases actions) (acted_answer st a).1
-  unfolding fits_reply
   acted_fits actions st (Now new) k = refl
   acted_fits actions st (Stuck why) k = k actions
 
   -- the store's reply to any request
   pub served_fits : (st : Store D) (ask : Request D Q) → IsSorted st.indices → IsSorted st.aliases → Fits ask (serve sel st ask).1
-  unfolding serve fits_reply
+  unfolding serve
   served_fits st Request.Ping a b = refl
-  served_fits st Request.State a b = rw (all_seen st.indices a) (rising st.aliases b)
+  served_fits st Request.State a b = rw (all_seen st.indices a) (names_rise st.aliases b)
   served_fits st (Request.Create name source) a b = create_fits name source st (at name st.indices) (at name st.aliases)
   served_fits st (Request.Block name) a b = block_fits name st (at name st.indices)
   served_fits st (Request.Clone source goal) a b = clone_fits source goal st (at goal st.indices) (at goal st.aliases) (at source st.indices)
@@ -250,7 +238,7 @@ take_few zero rows = omega arith
 take_few (suc n) [] = omega arith
 take_few (suc n) (r ∷ rows) = let k : length (take n rows) ≤ n = take_few n rows in omega arith
 
-few_rows : {A : Type 0} (limit : Option ℕ) (rows : Rows (Doc A)) → at_most limit (limited limit rows) ≡ true
+few_rows : {A : Type 0} (limit : Option ℕ) (rows : Rows (Doc A)) → within limit (length (limited limit rows)) ≡ true
 few_rows None rows = refl
 few_rows (Some n) rows = let k : length (take n rows) ≤ n = take_few n rows in grind (arith, nat_tests)
 

@@ -18,7 +18,7 @@ ghost use Rattle.call_model.specs.Calls.{NewObject, One, Call};
 ghost use Rattle.call_model.specs.Calls.Call.{BulkCreating};
 ghost use Rattle.call_model.specs.Calls.Answer.{Each, Refused};
 ghost use Rattle.call_model.specs.Steps.{called};
-ghost use Rattle.call_model.specs.Replies.{fits_reply};
+ghost use Rattle.race_model.specs.Replies.{fits_reply};
 ghost use Rattle.call_laws.specs.Meanings.{then_on};
 ghost use Rattle.call_effects.specs.Effects.{AllFit, RefusedAt, AllRefused};
 

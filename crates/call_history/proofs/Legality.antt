@@ -126,7 +126,7 @@ module _ {A O F : Type 0} (w : Words A O F) (settings : ℕ → Settings (Doc A)
     asked_fits : (how : How) (cut : Bool) (script : Script A O) → MayClient (clients w) how (Some (record { script = script; cut = cut })) e.tag e.request → Fits e
     asked_fits how cut script may =
         let asks : (clients w).asks script ≡ Some e.request = asks_of how cut may in
-        subst (λ x. Rattle.call_model.specs.Replies.fits_reply (λ (q : Query F). q.limit) e.request x ≡ true) (sym reply)
+        subst (λ x. Rattle.race_model.specs.Replies.fits_reply (λ (q : Query F). q.limit) e.request x ≡ true) (sym reply)
         (told_fits (λ (q : Query F). q.limit) (select w.holds) (query_limits w.holds) gs e.request (is_clients (w.version_alias script.registry.version) e.request (script_asks_only w script e.request asks)))
       where
         asks_of : (h : How) (b : Bool) → MayClient (clients w) h (Some (record { script = script; cut = b })) e.tag e.request → (clients w).asks script ≡ Some e.request

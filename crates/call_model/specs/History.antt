@@ -17,7 +17,7 @@ use Rattle.call_model.specs.Calls.{Call, Answer}
 use Rattle.call_model.specs.Steps.{called}
 use Rattle.call_model.specs.Plans.Next.{Answers, Asks}
 use Rattle.call_model.specs.Scripts.{Script, clients, first, next, last, own, replaced_where}
-use Rattle.call_model.specs.Replies.{fits_reply}
+use Rattle.race_model.specs.Replies.{fits_reply}
 
 -- one fact of a history: a change of the generations, or a call of a client, with the place of its deciding entry, that of its first entry, its client, its tag and its answer
 pub data HistoryFact (A : Type 0) : Type 0 where

@@ -4,6 +4,5 @@ pub mod Acts
 pub mod Steps
 pub mod Plans
 pub mod Scripts
-pub mod Replies
 pub mod Upgrades
 pub mod History
