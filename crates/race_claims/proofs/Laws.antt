@@ -153,6 +153,8 @@ unhindered_machines_end_as_done s is_fresh is_sound version_in pages events befo
     let w = worlds_kept s.race (opening_store s.current s.opening) s.instances s.scripts events in
     let told = unfailing s.race (opening_store s.current s.opening) s.instances s.scripts events (trace_after s (world_after s events).journal) w.agrees i node m there is unfailed in
     let goes = unhindered_starts_end_as_done s is_fresh is_sound version_in pages before after first i node.starts start told.0 fair knows paged find (subst (IsJournal s) journal w.conforms) own begun init unhindered
-    (subst (λ j. nth (trace_after s j).pasts i ≡ Some told.0) journal told.1) in
-    (heard_of node.starts told.0.runs, subst (GoesWell pages (s.race.settings i) (world_after s events).store (at s.current (trace_after s before).store.aliases) (heard_of node.starts told.0.runs)) told.2
-    (subst (λ x. GoesWell pages (s.race.settings i) x (at s.current (trace_after s before).store.aliases) (heard_of node.starts told.0.runs) (state_of node.starts told.0.runs)) (subst (λ j. (trace_after s j).store ≡ (world_after s events).store) journal w.agrees.store) goes))
+    (subst (λ j. nth (trace_after s j).pasts i ≡ Some told.0) journal told.1) in (
+      heard_of node.starts told.0.runs,
+      subst (GoesWell pages (s.race.settings i) (world_after s events).store (at s.current (trace_after s before).store.aliases) (heard_of node.starts told.0.runs)) told.2
+          (subst (λ x. GoesWell pages (s.race.settings i) x (at s.current (trace_after s before).store.aliases) (heard_of node.starts told.0.runs) (state_of node.starts told.0.runs)) (subst (λ j. (trace_after s j).store ≡ (world_after s events).store) journal w.agrees.store) goes),
+    )

@@ -117,9 +117,9 @@ module _ {D Q C : Type 0} (race : Race D Q C) where
   stepped_told w i node m (Some ask) a e q =
       place_with Told w.nodes i node (sent_by node (answered (race.settings i) m (serve race.select w.store ask).1) ask false) a e
       (λ m' name faults f g.
-        let is : answered (race.settings i) m (serve race.select w.store ask).1 ≡ m' = (let z : Some (answered (race.settings i) m (serve race.select w.store ask).1) ≡ Some m' = f in cc) in
-        let s : Sane {D = D} (Ended (GaveUp name faults)) = subst (Sane {D = D}) (ap (λ (x : Machine D). x.state) is ∙ g) (moved_sane (race.settings i) m.state ask (serve race.select w.store ask).1 q) in
-        absurd s)
+      let is : answered (race.settings i) m (serve race.select w.store ask).1 ≡ m' = (let z : Some (answered (race.settings i) m (serve race.select w.store ask).1) ≡ Some m' = f in cc) in
+      let s : Sane {D = D} (Ended (GaveUp name faults)) = subst (Sane {D = D}) (ap (λ (x : Machine D). x.state) is ∙ g) (moved_sane (race.settings i) m.state ask (serve race.select w.store ask).1 q) in
+      absurd s)
 
   step_told : (w : World D Q C) (i : ℕ) (o : Option (Node D Q)) → All w → nth w.nodes i ≡ o → All (step race w i o)
   step_told w i None a e = a
