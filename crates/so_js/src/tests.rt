@@ -1,3 +1,5 @@
+ghost use Rattle.std.specs.Prelude.{◌≤◌};
+
 use crate::{Js, JsError, member, parse, print};
 use std::alloc::Global;
 use std::test::Fail;
@@ -12,54 +14,59 @@ fn printed(alloc: Global, text: &str, depth: u32) -> Result<Vec<u8>, JsError>
 
 #[test]
 fn reads_and_prints(rt: HostRuntime) -> Result<(), Fail> {
-    let cases: [(&str, Result<&str, JsError>); 19] = [
+    let read = [
         (
             r#" {"b":[1,-2,"x"], "a":{"k":null,"k":true,"":false}}"#,
-            Ok(r#"{"a":{"":false,"k":true},"b":[1,-2,"x"]}"#),
+            r#"{"a":{"":false,"k":true},"b":[1,-2,"x"]}"#,
         ),
-        (
-            r#""\u00e9\n\/\"\u0001\ud83d\ude00""#,
-            Ok(r#""é\n/\"\u0001😀""#),
-        ),
-        ("18446744073709551615", Ok("18446744073709551615")),
-        ("-9223372036854775808", Ok("-9223372036854775808")),
-        ("[[]]", Ok("[[]]")),
-        (r#"{"a":1.5,"a":[[{}]],"a":1}"#, Ok(r#"{"a":1}"#)),
-        ("18446744073709551616", Err(JsError::Fraction)),
-        ("-9223372036854775809", Err(JsError::Fraction)),
-        ("-0", Err(JsError::Fraction)),
-        ("1.0", Err(JsError::Fraction)),
-        ("1e2", Err(JsError::Fraction)),
-        ("1e999", Err(JsError::BadJson)),
-        ("[[[]]]", Err(JsError::TooDeep)),
-        ("[[[1.5]]]", Err(JsError::TooDeep)),
-        ("[[1.5]]", Err(JsError::Fraction)),
-        (r#""\ud83d""#, Err(JsError::BadJson)),
-        ("[[1.5]", Err(JsError::BadJson)),
-        ("1 2", Err(JsError::BadJson)),
-        ("", Err(JsError::BadJson)),
+        (r#""\u00e9\n\/\"\u0001\ud83d\ude00""#, r#""é\n/\"\u0001😀""#),
+        ("18446744073709551615", "18446744073709551615"),
+        ("-9223372036854775808", "-9223372036854775808"),
+        ("[[]]", "[[]]"),
+        (r#"{"a":1.5,"a":[[{}]],"a":1}"#, r#"{"a":1}"#),
     ];
-    for (text, want) in cases {
-        match printed(rt.alloc(), text, 2) {
-            Ok(bytes) => assert_eq!(rt; want.map(|s| s.as_bytes()), Ok(bytes.as_slice()), "{text}"),
-            Err(error) => assert_eq!(rt; want.map(|s| s.len()), Err(error), "{text}"),
-        }
+    for (text, want) in read {
+        let bytes = printed(rt.alloc(), text, 2)?;
+        assert_eq!(rt; bytes.as_slice(), want.as_bytes(), "{text}");
     }
+    let refused = [
+        ("18446744073709551616", JsError::Fraction),
+        ("-9223372036854775809", JsError::Fraction),
+        ("-0", JsError::Fraction),
+        ("1.0", JsError::Fraction),
+        ("1e2", JsError::Fraction),
+        ("[[1.5]]", JsError::Fraction),
+        ("[[[]]]", JsError::TooDeep),
+        ("[[[1.5]]]", JsError::TooDeep),
+        ("1e999", JsError::BadJson),
+        (r#""\ud83d""#, JsError::BadJson),
+        ("[[1.5]", JsError::BadJson),
+        ("1 2", JsError::BadJson),
+        ("", JsError::BadJson),
+    ];
+    for (text, want) in refused {
+        let got = printed(rt.alloc(), text, 2).err();
+        assert_eq!(rt; got, Some(want), "{text}");
+    }
+    let not_utf8 = parse(rt.alloc(), b"\"\xff\"", 2).err();
+    assert_eq!(rt; not_utf8, Some(JsError::BadJson));
     Ok(())
 }
 
 #[test]
-fn bytes_and_depth(rt: HostRuntime) -> Result<(), Fail> {
-    assert!(rt; parse(rt.alloc(), b"\"\xff\"", 2).is_err_and(|e| e == JsError::BadJson));
-    let deepest = "[".repeat(rt.alloc(), 127)?;
+fn nests_to_127(rt: HostRuntime) -> Result<(), Fail> {
+    let open = "[".repeat(rt.alloc(), 127)?;
     let closed = "]".repeat(rt.alloc(), 127)?;
-    let text = format!(in rt.alloc(); "{deepest}{closed}")?;
+    let text = format!(in rt.alloc(); "{open}{closed}")?;
     assert_eq!(rt;
         printed(rt.alloc(), &text, 127)?.as_slice(),
         text.as_bytes()
     );
-    let text = format!(in rt.alloc(); "[{deepest}{closed}]")?;
-    assert!(rt; printed(rt.alloc(), &text, 127).is_err_and(|e| e == JsError::BadJson));
+    let text = format!(in rt.alloc(); "[{open}{closed}]")?;
+    assert_eq!(rt;
+        printed(rt.alloc(), &text, 127).err(),
+        Some(JsError::BadJson)
+    );
     Ok(())
 }
 
