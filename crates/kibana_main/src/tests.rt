@@ -177,7 +177,11 @@ fn refuses_lines(rt: HostRuntime) -> Result<(), Fail> {
         ),
         (REGISTRY, r#"{"line":"doc"}"#, "NotBuilt"),
         (REGISTRY, REGISTRY, "DuplicateRegistry"),
-        (REGISTRY, r#"{"line":"registry","version":"7"}"#, "BadVersion"),
+        (
+            REGISTRY,
+            r#"{"line":"registry","version":"7"}"#,
+            "BadVersion",
+        ),
         (
             REGISTRY,
             r#"{"line":"event","event":"step","instance":1}"#,
@@ -236,8 +240,7 @@ fn refuses_lines(rt: HostRuntime) -> Result<(), Fail> {
     for (first, second, kind) in cases {
         let input = text(alloc, &[first, second, "["])?;
         let (status, sink) = run(alloc, "apply", input.as_bytes(), &[], &[])?;
-        let fault =
-            format!(in alloc; "{{\"at\":2,\"fault\":\"BadInput\",\"kind\":\"{kind}\"}}\n")?;
+        let fault = format!(in alloc; "{{\"at\":2,\"fault\":\"BadInput\",\"kind\":\"{kind}\"}}\n")?;
         assert_eq!(rt; status, 3);
         assert_eq!(rt; sink.held(), fault.as_bytes(), "{second}");
     }
@@ -250,7 +253,10 @@ fn meets_cuts_and_faults(rt: HostRuntime) -> Result<(), Fail> {
     let bad_json = "{\"at\":2,\"fault\":\"BadInput\",\"kind\":\"BadJson\"}\n";
     let whole = text(alloc, &[REGISTRY, GET])?;
     for cut in 1..GET.len() {
-        let input = whole.as_bytes().get(..REGISTRY.len() + 1 + cut).unwrap_or(&[]);
+        let input = whole
+            .as_bytes()
+            .get(..REGISTRY.len() + 1 + cut)
+            .unwrap_or(&[]);
         let (status, sink) = run(alloc, "apply", input, &[], &[])?;
         assert_eq!(rt; status, 3);
         assert_eq!(rt; sink.held(), bad_json.as_bytes());
