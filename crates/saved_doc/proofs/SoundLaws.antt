@@ -120,4 +120,4 @@ is_sound-doc_js d name attributes =
     let own = named d.type_name d.attributes in
     is_sound-Object (placed own (members_beside d))
     ∙ and_from _ _ (list_all-placed (λ m. is_sound m.value) own (members_beside d) attributes (values-sound (table_beside d) (table-sound d)))
-        (rising-placed own (members_beside d) none (rising-written (table_beside d) (table-rising d)))
+    (rising-placed own (members_beside d) none (rising-written (table_beside d) (table-rising d)))

@@ -131,7 +131,7 @@ doc_in-stored js d h =
     let found = accepted-ok (only_known name.0 js) _ UnknownField d origin.2 in
     ap is_stored (sym found.1)
     ∙ and_from _ _ (and_from _ _ (and_from _ _
-        (optional-ok space_id_in is_space_id space_id-ok _ namespace.0 namespace.1)
-        (optional-ok spaces_in are_spaces spaces-ok _ namespaces.0 namespaces.1))
-        (stamp-ok name.0 js stamp.0 stamp.1))
-        (optional-ok version_in is_version version-ok _ core.0 core.1)
+    (optional-ok space_id_in is_space_id space_id-ok _ namespace.0 namespace.1)
+    (optional-ok spaces_in are_spaces spaces-ok _ namespaces.0 namespaces.1))
+    (stamp-ok name.0 js stamp.0 stamp.1))
+    (optional-ok version_in is_version version-ok _ core.0 core.1)

@@ -26,7 +26,7 @@ ver_of-ver_text v h =
     let p = and_parts _ _ h in
     let q = and_parts _ _ p.0 in
     let read : version_parts (ver_text v) ≡ Ok (parts v) =
-        ap version_parts (sym (parts_text-plain v)) ∙ version_parts-complete (parts v) (ltb-true _ _ q.0, ltb-true _ _ q.1, ltb-true _ _ p.1, refl, refl) in
+    ap version_parts (sym (parts_text-plain v)) ∙ version_parts-complete (parts v) (ltb-true _ _ q.0, ltb-true _ _ q.1, ltb-true _ _ p.1, refl, refl) in
     rw read refl
 
 -- what was read is of the range

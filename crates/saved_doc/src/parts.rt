@@ -87,8 +87,7 @@ fn read_reference(alloc: Global, js: &Js) -> Result<Ref, DocError>
     };
     match members.as_slice() {
         [id, name, type_name]
-            if is_named(id, "id") && is_named(name, "name") && is_named(type_name, "type") =>
-        {
+            if is_named(id, "id") && is_named(name, "name") && is_named(type_name, "type") => {
             let id = read_text(alloc, &id.value)?;
             let name = read_text(alloc, &name.value)?;
             let type_name = read_text(alloc, &type_name.value)?;

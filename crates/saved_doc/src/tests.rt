@@ -62,27 +62,81 @@ fn refuses_by_the_first_fault(rt: HostRuntime) {
         (r#"{"type":"a b","a b":{}}"#, DocError::WrongKind),
         (r#"{"type":"t"}"#, DocError::MissingField),
         (r#"{"type":"t","t":[]}"#, DocError::WrongKind),
-        (r#"{"type":"t","t":{},"references":{}}"#, DocError::WrongKind),
-        (r#"{"type":"t","t":{},"references":[{"id":"i","name":"n"}]}"#, DocError::WrongKind),
-        (r#"{"type":"t","t":{},"references":[{"id":"i","name":"n","type":"t","x":1}]}"#, DocError::WrongKind),
+        (
+            r#"{"type":"t","t":{},"references":{}}"#,
+            DocError::WrongKind,
+        ),
+        (
+            r#"{"type":"t","t":{},"references":[{"id":"i","name":"n"}]}"#,
+            DocError::WrongKind,
+        ),
+        (
+            r#"{"type":"t","t":{},"references":[{"id":"i","name":"n","type":"t","x":1}]}"#,
+            DocError::WrongKind,
+        ),
         (r#"{"type":"t","t":{},"namespace":1}"#, DocError::WrongKind),
         (r#"{"type":"t","t":{},"namespace":"A"}"#, DocError::BadSpace),
-        (r#"{"type":"t","t":{},"namespace":"default"}"#, DocError::BadSpace),
-        (r#"{"type":"t","t":{},"namespaces":[]}"#, DocError::WrongKind),
-        (r#"{"type":"t","t":{},"namespaces":["A",1]}"#, DocError::BadSpace),
-        (r#"{"type":"t","t":{},"namespaces":[1,"A"]}"#, DocError::WrongKind),
-        (r#"{"type":"t","t":{},"typeMigrationVersion":"7"}"#, DocError::BadVersion),
-        (r#"{"type":"t","t":{},"migrationVersion":{"t":"7"}}"#, DocError::BadVersion),
-        (r#"{"type":"t","t":{},"migrationVersion":{"t":7}}"#, DocError::WrongKind),
-        (r#"{"type":"t","t":{},"migrationVersion":{"u":"7.0.0"}}"#, DocError::WrongKind),
-        (r#"{"type":"t","t":{},"migrationVersion":{"t":"7.0.0","u":"7.0.0"}}"#, DocError::WrongKind),
-        (r#"{"type":"t","t":{},"typeMigrationVersion":"7.0.0","migrationVersion":{"t":"7"}}"#, DocError::BadVersion),
-        (r#"{"type":"t","t":{},"coreMigrationVersion":"7.0.0-a"}"#, DocError::BadVersion),
+        (
+            r#"{"type":"t","t":{},"namespace":"default"}"#,
+            DocError::BadSpace,
+        ),
+        (
+            r#"{"type":"t","t":{},"namespaces":[]}"#,
+            DocError::WrongKind,
+        ),
+        (
+            r#"{"type":"t","t":{},"namespaces":["A",1]}"#,
+            DocError::BadSpace,
+        ),
+        (
+            r#"{"type":"t","t":{},"namespaces":[1,"A"]}"#,
+            DocError::WrongKind,
+        ),
+        (
+            r#"{"type":"t","t":{},"typeMigrationVersion":"7"}"#,
+            DocError::BadVersion,
+        ),
+        (
+            r#"{"type":"t","t":{},"migrationVersion":{"t":"7"}}"#,
+            DocError::BadVersion,
+        ),
+        (
+            r#"{"type":"t","t":{},"migrationVersion":{"t":7}}"#,
+            DocError::WrongKind,
+        ),
+        (
+            r#"{"type":"t","t":{},"migrationVersion":{"u":"7.0.0"}}"#,
+            DocError::WrongKind,
+        ),
+        (
+            r#"{"type":"t","t":{},"migrationVersion":{"t":"7.0.0","u":"7.0.0"}}"#,
+            DocError::WrongKind,
+        ),
+        (
+            r#"{"type":"t","t":{},"typeMigrationVersion":"7.0.0","migrationVersion":{"t":"7"}}"#,
+            DocError::BadVersion,
+        ),
+        (
+            r#"{"type":"t","t":{},"coreMigrationVersion":"7.0.0-a"}"#,
+            DocError::BadVersion,
+        ),
         (r#"{"type":"t","t":{},"updated_at":1}"#, DocError::WrongKind),
-        (r#"{"type":"t","t":{},"originId":null}"#, DocError::WrongKind),
-        (r#"{"type":"t","t":{},"version":"WzAsMV0="}"#, DocError::UnknownField),
-        (r#"{"type":"t","t":{},"x":1,"coreMigrationVersion":"7"}"#, DocError::BadVersion),
-        (r#"{"type":"t","t":{},"coreMigrationVersion":"7","namespace":"A"}"#, DocError::BadSpace),
+        (
+            r#"{"type":"t","t":{},"originId":null}"#,
+            DocError::WrongKind,
+        ),
+        (
+            r#"{"type":"t","t":{},"version":"WzAsMV0="}"#,
+            DocError::UnknownField,
+        ),
+        (
+            r#"{"type":"t","t":{},"x":1,"coreMigrationVersion":"7"}"#,
+            DocError::BadVersion,
+        ),
+        (
+            r#"{"type":"t","t":{},"coreMigrationVersion":"7","namespace":"A"}"#,
+            DocError::BadSpace,
+        ),
     ];
     for (text, want) in cases {
         assert_eq!(rt; read(rt.alloc(), text).map(|_| ()), Err(want), "{text}");
@@ -121,7 +175,9 @@ fn large(alloc: Global) -> Result<String, AllocError> {
     let mut text = String::from_str(alloc, r#"{"type":"dashboard","references":["#)?;
     for at in 0..40u32 {
         let comma = if at == 0 { "" } else { "," };
-        let reference = format!(in alloc; r#"{comma}{{"id":"{at}","name":"panel_{at}","type":"visualization"}}"#)?;
+        let reference = format!(in alloc;
+            r#"{comma}{{"id":"{at}","name":"panel_{at}","type":"visualization"}}"#
+        )?;
         text.push_str(&reference)?;
     }
     text.push_str(r#"],"dashboard":{"panelsJSON":"["#)?;

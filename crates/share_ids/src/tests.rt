@@ -25,7 +25,8 @@ fn alias_documents(rt: HostRuntime) -> Result<(), Fail> {
     let doc = alias_doc(rt.alloc(), version, "a", "dashboard", "d1", "u")?;
     let js = saved_doc::to_js(rt.alloc(), &doc)?;
     let printed = so_js::print(rt.alloc(), &js)?;
-    let want = r#"{"coreMigrationVersion":"7.12.0","legacy-url-alias":{"sourceId":"d1","targetId":"u","targetNamespace":"a","targetType":"dashboard"},"references":[],"type":"legacy-url-alias"}"#;
+    let want =
+        r#"{"coreMigrationVersion":"7.12.0","legacy-url-alias":{"sourceId":"d1","targetId":"u","targetNamespace":"a","targetType":"dashboard"},"references":[],"type":"legacy-url-alias"}"#;
     assert_eq!(rt; printed.as_slice(), want.as_bytes());
     Ok(())
 }

@@ -4,10 +4,9 @@
 
 use kibana_main::{Status, plain};
 use plain_data::{List, Text};
-use std::env;
-use std::io;
 use std::process::ExitCode;
 use std::rt::Env;
+use std::{env, io};
 use wire_io::{StdSink, StdSource};
 
 fn main(rt: HostRuntime) -> ExitCode {
