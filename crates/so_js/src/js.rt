@@ -11,12 +11,9 @@ use std::alloc::AllocError;
 pub enum Js {
     Null,
     Bool(bool),
-    /// A whole number.
     Whole(i128),
     Str(Text),
-    /// A list.
     Items(List<Js>),
-    /// The members of an object in rising order of key.
     Object(List<Member>),
 }
 

@@ -1,0 +1,5 @@
+pub mod Refusals
+pub mod Versions
+pub mod Fitting
+pub mod Replying
+pub mod Raws

@@ -1,0 +1,10 @@
+pub mod Items
+pub mod Bulks
+pub mod Aliases
+pub mod Writing
+pub mod Reading
+pub mod Fates
+pub mod Moments
+pub mod Resolving
+pub mod Keeping
+pub mod Performing

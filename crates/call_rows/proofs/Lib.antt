@@ -1,0 +1,4 @@
+pub mod Example
+pub mod Rows
+pub mod Races
+pub mod Premises

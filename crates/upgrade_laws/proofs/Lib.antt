@@ -1,0 +1,5 @@
+pub mod Selecting
+pub mod Listed
+pub mod Moves
+pub mod Rolling
+pub mod Claims
