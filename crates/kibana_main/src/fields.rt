@@ -2,8 +2,8 @@ ghost use Rattle.std.specs.Prelude.{◌≡◌, ◌++◌, ◌∷◌, [], IfOk};
 ghost use Rattle.so_js.specs.declared.js.Js.TheVariants.{Object, Str};
 ghost use Rattle.kibana_main.specs.Report.{named};
 
-use so_js::{Js, Member};
 use plain_data::{List, Text};
+use so_js::{Js, Member};
 use std::alloc::{AllocError, Global};
 
 /// The members of an object so far, in order of key.
@@ -30,11 +30,10 @@ impl Fields {
         Ok(Fields { members })
     }
 
-    pub fn with_text(self, key: &str, text: &str) -> Result<Fields, AllocError>
-        ensures { IfOk result (λ f. f.members ≡ self.members ++ named key.now (Str text.now) ∷ []) }
+    pub fn with_text(self, key: &str, text: Text) -> Result<Fields, AllocError>
+        ensures { IfOk result (λ f. f.members ≡ self.members ++ named key.now (Str text) ∷ []) }
     {
-        let alloc = self.members.alloc();
-        self.with(key, Js::Str(Text::from_str(alloc, text)?))
+        self.with(key, Js::Str(text))
     }
 
     pub fn into_js(self) -> Js

@@ -1,58 +1,28 @@
-//! The calls of `apply`, from bytes to bytes.
+//! The command `apply`, from the bytes of its input to the bytes of its output: the lines of an
+//! input, the calls that they state, the store that answers them, and the lines that are printed.
 #![tactic(auto)]
 
 mod attributes;
-mod command;
+mod call;
 mod fields;
+mod line_kind;
+mod members;
 mod plain_call;
+mod registry;
 mod report;
 mod scenario;
+mod status;
 mod store;
 
 pub use attributes::Attributes;
-pub use command::{Call, Command, Registry, read_command};
-pub use plain_call::{Status, plain};
-pub use scenario::{InputError, Placed, Scenario, Which, read_scenario};
-pub use store::{Answer, Answered, Refusal, Row, answers};
+pub use call::{Call, CallKind, read_call_line};
+pub use line_kind::LineKind;
+pub use members::LineError;
+pub use plain_call::plain;
+pub use registry::{Registry, read_registry};
+pub use scenario::{Placed, Scenario, ScenarioError, read_scenario};
+pub use status::Status;
+pub use store::{Answer, Refuse, Row, Store};
 
 #[cfg(test)]
-mod tests {
-    use super::*;
-    use plain_data::{List, Text};
-    use std::test::Fail;
-    use wire_io::{MemSink, MemSource};
-
-    const REGISTRY: &str =
-        "{\"line\":\"registry\",\"version\":\"7.12.0\",\"types\":[{\"name\":\"dashboard\",\"kind\":\"single\"}]}\n";
-
-    #[test]
-    fn creates_and_gets(rt: HostRuntime) -> Result<(), Fail> {
-        let alloc = rt.alloc();
-        let mut input = String::from_str(alloc, REGISTRY)?;
-        input.push_str(
-            "{\"line\":\"call\",\"call\":{\"do\":\"create\",\"type\":\"dashboard\",\"id\":\"d1\",\"attributes\":{\"title\":\"Sales\"}}}\n",
-        )?;
-        input.push_str(
-            "{\"line\":\"call\",\"call\":{\"do\":\"get\",\"type\":\"dashboard\",\"id\":\"d1\"}}\r\n\n",
-        )?;
-        input.push_str(
-            "{\"line\":\"call\",\"call\":{\"do\":\"get\",\"type\":\"map\",\"id\":\"d1\"}}",
-        )?;
-        let mut source = MemSource::new(
-            List::from_slice(alloc, input.as_bytes())?,
-            7,
-            List::new(alloc),
-        );
-        let mut sink = MemSink::new(alloc, List::new(alloc));
-        let mut words = List::new(alloc);
-        words.push(Text::from_str(alloc, "apply")?)?;
-        assert_eq!(rt; plain(alloc, &words, &mut source, &mut sink), Status::Ok);
-        let object =
-            "{\"ok\":{\"attributes\":{\"title\":\"Sales\"},\"coreMigrationVersion\":\"7.12.0\",\"id\":\"d1\",\"namespaces\":[\"default\"],\"references\":[],\"type\":\"dashboard\",\"version\":\"WzAsMV0=\"}}";
-        let want = format!(in alloc;
-            "{{\"answer\":{object},\"at\":2,\"line\":\"answer\"}}\n{{\"answer\":{object},\"at\":3,\"line\":\"answer\"}}\n{{\"answer\":{{\"error\":{{\"code\":3,\"name\":\"UnsupportedType\"}}}},\"at\":5,\"line\":\"answer\"}}\n"
-        )?;
-        assert_eq!(rt; sink.held(), want.as_bytes());
-        Ok(())
-    }
-}
+mod tests;

@@ -1,86 +1,24 @@
-ghost use Rattle.std.specs.Prelude.{◌≡◌, ◌≤◌, Err, IfOk, IfSome, false};
+ghost use Rattle.std.specs.Prelude.{◌≡◌, ◌≤◌, [], Err, IfOk, IfSome, false};
 ghost use Rattle.wire_io.specs.Causes.{Rose};
+ghost use Rattle.kibana_main.specs.Report.{answers_text};
+ghost use Rattle.kibana_main.specs.Scenario.{FaultIsFirst};
+ghost use Rattle.kibana_main.specs.Store.{answers_from};
 ghost use Rattle.kibana_main.specs.Output.{is_apply_words, scenario_text, outcome_of, usage_outcome, Ends, Spends, IsCertain};
 
-use crate::report::{answers_lines, bad_input_line, limit_line, usage_line};
-use crate::scenario::{InputError, Scenario, Which, read_scenario};
-use crate::store::answers;
+use crate::registry::Registry;
+use crate::report::{add_answer_line, fault_line};
+use crate::scenario::{Placed, Scenario, ScenarioError, read_scenario};
+use crate::status::Status;
+use crate::store::Store;
 use plain_data::{List, Text};
 use std::alloc::{AllocError, Global};
-use wire_io::{Sink, Source, write_all_of};
-
-/// How a run ended.
-#[derive(Clone, Copy, Debug, PartialEq, Eq)]
-pub enum Status {
-    Ok,
-    Memory,
-    Usage,
-    BadInput(u64),
-    ReadFault,
-    WriteFault,
-    Limit(Which),
-}
-
-fn is_apply(words: &List<Text>) -> bool
-    ensures { result ≡ is_apply_words words.now }
-{
-    match words.as_slice() {
-        [word] => word.as_str() == "apply",
-        _ => false,
-    }
-}
-
-/// What is printed for a scenario.
-fn output(alloc: Global, scenario: &Scenario) -> Result<List<u8>, AllocError>
-    ensures { IfOk result (λ text. text ≡ scenario_text scenario.now) }
-{
-    match &scenario.registry {
-        None => Ok(List::new(alloc)),
-        Some(registry) => {
-            let all = answers(alloc, registry, &scenario.calls)?;
-            let lines = answers_lines(alloc, registry.version, &all)?;
-            Ok(lines)
-        }
-    }
-}
+use wire_io::{InputFault, Sink, Source, write_all_of};
 
 /// How a run is to end, and what it is to write.
 #[derive(Debug, Drop)]
 struct Outcome {
     status: Status,
     text: List<u8>,
-}
-
-/// Runs the command that the words name.
-pub fn plain<S: Source, K: Sink>(
-    alloc: Global,
-    words: &List<Text>,
-    source: &mut S,
-    sink: &mut K,
-) -> Status
-    // The words and the input say the status and what is written. Want of memory or a fault may cut it short.
-    ensures told { IfSome (S.left source.old) (λ input.
-        Ends (outcome_of words.now input) (K.held sink.old) (K.held sink.new) result) }
-
-    // Words that name no command are told at once.
-    ensures usage { is_apply_words words.now ≡ false
-        → Ends usage_outcome (K.held sink.old) (K.held sink.new) result }
-
-    // At Ok the input was read to its end.
-    ensures spent { result ≡ Status.Ok → Spends (S.left source.old) (S.left source.new) }
-    ensures read { S.faults source.old ≤ S.faults source.new }
-    ensures read_fault { result ≡ Status.ReadFault → Rose (S.faults source.old) (S.faults source.new) }
-    ensures write { K.faults sink.old ≤ K.faults sink.new }
-    ensures write_fault { result ≡ Status.WriteFault → Rose (K.faults sink.old) (K.faults sink.new) }
-{
-    match judge(alloc, words, source) {
-        Ok(outcome) => match write_all_of(sink, outcome.text.as_slice()) {
-            Ok(()) => outcome.status,
-            Err(_) => Status::WriteFault,
-        },
-        Err(Unknown::Memory) => Status::Memory,
-        Err(Unknown::ReadFault) => Status::ReadFault,
-    }
 }
 
 /// Why no outcome is known.
@@ -101,6 +39,42 @@ impl From<AllocError> for Unknown {
     }
 }
 
+/// Runs the command that the words name over the bytes of the source, and writes its output to the
+/// sink. The whole input is read and checked before anything is done or written.
+pub fn plain<S: Source, K: Sink>(
+    alloc: Global,
+    words: &List<Text>,
+    source: &mut S,
+    sink: &mut K,
+) -> Status
+    // The words and the input say the status and what is written. Want of memory or a fault may cut it short.
+    ensures told { IfSome (S.left source.old) (λ input.
+        Ends (outcome_of words.now input) (K.held sink.old) (K.held sink.new) result) }
+
+    // Words that name no command are told at once.
+    ensures usage { is_apply_words words.now ≡ false
+        → Ends usage_outcome (K.held sink.old) (K.held sink.new) result }
+
+    // At Ok the input was read to its end.
+    ensures spent { result ≡ Status.Ok → Spends (S.left source.old) (S.left source.new) }
+    ensures read { S.faults source.old ≤ S.faults source.new }
+    ensures read_fault { result ≡ Status.ReadFault → Rose (S.faults source.old) (S.faults source.new) }
+
+    // A refused line or a passed limit that stands before the fault would have been answered.
+    ensures read_fault_first { result ≡ Status.ReadFault → FaultIsFirst (S.left source.old) (S.left source.new) }
+    ensures write { K.faults sink.old ≤ K.faults sink.new }
+    ensures write_fault { result ≡ Status.WriteFault → Rose (K.faults sink.old) (K.faults sink.new) }
+{
+    match judge(alloc, words, source) {
+        Ok(outcome) => match write_all_of(sink, outcome.text.as_slice()) {
+            Ok(()) => outcome.status,
+            Err(_) => Status::WriteFault,
+        },
+        Err(Unknown::Memory) => Status::Memory,
+        Err(Unknown::ReadFault) => Status::ReadFault,
+    }
+}
+
 fn judge<S: Source>(alloc: Global, words: &List<Text>, source: &mut S) -> Result<Outcome, Unknown>
     ensures told { IfSome (S.left source.old) (λ input. IfOk result (λ o. o ≡ outcome_of words.now input)) }
     ensures usage { is_apply_words words.now ≡ false → IfOk result (λ o. o ≡ usage_outcome) }
@@ -109,6 +83,7 @@ fn judge<S: Source>(alloc: Global, words: &List<Text>, source: &mut S) -> Result
     ensures known { is_apply_words words.now ≡ false → result ≡ Err Unknown.ReadFault → ⊥ }
     ensures later { S.faults source.old ≤ S.faults source.new }
     ensures fault { result ≡ Err Unknown.ReadFault → Rose (S.faults source.old) (S.faults source.new) }
+    ensures fault_first { result ≡ Err Unknown.ReadFault → FaultIsFirst (S.left source.old) (S.left source.new) }
 {
     if !is_apply(words) {
         let outcome = usage(alloc)?;
@@ -117,18 +92,27 @@ fn judge<S: Source>(alloc: Global, words: &List<Text>, source: &mut S) -> Result
     match read_scenario(alloc, source) {
         Ok(scenario) => Ok(Outcome {
             status: Status::Ok,
-            text: output(alloc, &scenario)?,
+            text: output(alloc, scenario)?,
         }),
-        Err(InputError::Memory) => Err(Unknown::Memory),
-        Err(InputError::ReadFault) => Err(Unknown::ReadFault),
-        Err(InputError::NotBuilt(at)) => Ok(Outcome {
-            status: Status::BadInput(at),
-            text: bad_input_line(alloc, at)?,
+        Err(ScenarioError::Memory) => Err(Unknown::Memory),
+        Err(ScenarioError::ReadFault) => Err(Unknown::ReadFault),
+        Err(ScenarioError::BadInput { line, kind }) => Ok(Outcome {
+            status: Status::BadInput { line, kind },
+            text: fault_line(alloc, InputFault::BadInput { line, kind })?,
         }),
-        Err(InputError::Limit(which)) => Ok(Outcome {
+        Err(ScenarioError::Limit(which)) => Ok(Outcome {
             status: Status::Limit(which),
-            text: limit_line(alloc, which)?,
+            text: fault_line(alloc, InputFault::Limit(which))?,
         }),
+    }
+}
+
+fn is_apply(words: &List<Text>) -> bool
+    ensures { result ≡ is_apply_words words.now }
+{
+    match words.as_slice() {
+        [word] => word.as_str() == "apply",
+        _ => false,
     }
 }
 
@@ -137,6 +121,38 @@ fn usage(alloc: Global) -> Result<Outcome, AllocError>
 {
     Ok(Outcome {
         status: Status::Usage,
-        text: usage_line(alloc)?,
+        text: fault_line(alloc, InputFault::Usage)?,
     })
+}
+
+/// What is written for a scenario.
+fn output(alloc: Global, scenario: Scenario) -> Result<List<u8>, AllocError>
+    ensures { IfOk result (λ text. text ≡ scenario_text scenario) }
+{
+    let Scenario { registry, calls } = scenario;
+    match registry {
+        None => Ok(List::new(alloc)),
+        Some(registry) => {
+            let lines = answer_lines(alloc, &registry, calls)?;
+            Ok(lines)
+        }
+    }
+}
+
+/// The lines of the answers to the calls, one after another on an empty store.
+fn answer_lines(
+    alloc: Global,
+    registry: &Registry,
+    calls: List<Placed>,
+) -> Result<List<u8>, AllocError>
+    ensures { IfOk result (λ lines. lines ≡ answers_text registry.now.version (answers_from registry.now [] calls)) }
+{
+    let mut store = Store::new(alloc);
+    let mut lines = List::new(alloc);
+    for placed in calls.into_vec() {
+        let Placed { at, call } = placed;
+        let answer = store.call(registry, call)?;
+        add_answer_line(alloc, &mut lines, registry.version, at, answer)?;
+    }
+    Ok(lines)
 }

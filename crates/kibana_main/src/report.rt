@@ -1,15 +1,15 @@
-ghost use Rattle.std.specs.Prelude.{◌≡◌, ◌<◌, ◌^◌, pos, ◌∷◌, [], IfOk, OnOk, true};
+ghost use Rattle.std.specs.Prelude.{◌≡◌, ◌<◌, ◌^◌, pos, ◌∷◌, ◌++◌, [], IfOk, OnOk, true};
 ghost use Rattle.so_js.specs.Tree.{is_sound};
 ghost use Rattle.so_js.specs.declared.js.Js.TheVariants.{Object, Str, Whole};
-ghost use Rattle.kibana_main.specs.Report.{named, refusal_js, default_js, line_js, row_members, row_js, answer_js, answer_text, answers_text, line_of, usage_text, bad_input_text, limit_text};
+ghost use Rattle.kibana_main.specs.Report.{named, refuse_js, default_js, answer_line_js, row_members, row_js, answer_js, answer_text, line_of, kind_name, which_name, fault_js, fault_text};
 
 use crate::fields::Fields;
-use crate::scenario::Which;
-use crate::store::{Answer, Answered, Refusal, Row};
-use so_js::{Js, Member, print};
+use crate::store::{Answer, Refuse, Row};
 use plain_data::{List, Text};
+use so_js::{Js, Member, print};
 use std::alloc::{AllocError, Global};
 use version_token::{Ver, encode};
+use wire_io::{InputFault, InputKind, Which};
 
 fn member(alloc: Global, key: &str, value: Js) -> Result<Member, AllocError>
     ensures { IfOk result (λ m. m ≡ record { key = key.now; value = value }) }
@@ -20,68 +20,16 @@ fn member(alloc: Global, key: &str, value: Js) -> Result<Member, AllocError>
     })
 }
 
-fn word(alloc: Global, text: &str) -> Result<Js, AllocError>
+fn text(alloc: Global, text: &str) -> Result<Js, AllocError>
     ensures { IfOk result (λ js. js ≡ Str text.now) }
 {
     Ok(Js::Str(Text::from_str(alloc, text)?))
 }
 
-fn object<const N: usize>(alloc: Global, members: [Member; N]) -> Result<Js, AllocError>
-    ensures { IfOk result (λ js. js ≡ Object members.entry) }
+fn text_member(alloc: Global, key: &str, value: &str) -> Result<Member, AllocError>
+    ensures { IfOk result (λ m. m ≡ record { key = key.now; value = Str value.now }) }
 {
-    Ok(Js::Object(List::from_vec(Vec::from_array(alloc, members)?)))
-}
-
-fn refusal(alloc: Global, refusal: Refusal) -> Result<Js, AllocError>
-    ensures { IfOk result (λ js. js ≡ refusal_js refusal) }
-{
-    let (code, name) = match refusal {
-        Refusal::NotFound => (1, "NotFound"),
-        Refusal::Conflict => (2, "Conflict"),
-        Refusal::UnsupportedType => (3, "UnsupportedType"),
-    };
-    let code = member(alloc, "code", Js::Whole(code))?;
-    let name = member(alloc, "name", word(alloc, name)?)?;
-    object(alloc, [code, name])
-}
-
-fn text_member(alloc: Global, key: &str, text: &str) -> Result<Member, AllocError>
-    ensures { IfOk result (λ m. m ≡ record { key = key.now; value = Str text.now }) }
-{
-    member(alloc, key, word(alloc, text)?)
-}
-
-fn default_space(alloc: Global) -> Result<Js, AllocError>
-    ensures { IfOk result (λ js. js ≡ default_js) }
-{
-    let spaces = Vec::from_array(alloc, [word(alloc, "default")?])?;
-    Ok(Js::Items(List::from_vec(spaces)))
-}
-
-fn row_fields(alloc: Global, version: Ver, row: &Row) -> Result<Fields, AllocError>
-    ensures value { IfOk result (λ f. f.members ≡ row_members version row.now) }
-    ensures sound { OnOk result (is_sound (row_js version row.now) ≡ true) }
-{
-    let attributes = row.attributes.as_js().clone()?;
-    let core = version.text(alloc)?;
-    let token = encode(alloc, row.number)?;
-    let fields = Fields::new(alloc)
-        .with("attributes", attributes)?
-        .with_text("coreMigrationVersion", core.as_str())?
-        .with_text("id", row.id.as_str())?
-        .with("namespaces", default_space(alloc)?)?
-        .with("references", Js::Items(List::new(alloc)))?
-        .with_text("type", row.type_name.as_str())?
-        .with_text("version", token.as_str())?;
-    Ok(fields)
-}
-
-fn row_object(alloc: Global, version: Ver, row: &Row) -> Result<Js, AllocError>
-    ensures value { IfOk result (λ js. js ≡ row_js version row.now) }
-    ensures sound { OnOk result (is_sound (row_js version row.now) ≡ true) }
-{
-    let fields = row_fields(alloc, version, row)?;
-    Ok(fields.into_js())
+    member(alloc, key, text(alloc, value)?)
 }
 
 fn number(whole: u64) -> Js
@@ -91,15 +39,67 @@ fn number(whole: u64) -> Js
     Js::Whole(i128::from(whole))
 }
 
+fn object<const N: usize>(alloc: Global, members: [Member; N]) -> Result<Js, AllocError>
+    ensures { IfOk result (λ js. js ≡ Object members.entry) }
+{
+    Ok(Js::Object(List::from_vec(Vec::from_array(alloc, members)?)))
+}
+
+fn refuse_object(alloc: Global, refuse: Refuse) -> Result<Js, AllocError>
+    ensures { IfOk result (λ js. js ≡ refuse_js refuse) }
+{
+    let (code, name) = match refuse {
+        Refuse::NotFound => (1, "NotFound"),
+        Refuse::Conflict => (2, "Conflict"),
+        Refuse::UnsupportedType => (3, "UnsupportedType"),
+        Refuse::BadId => (4, "BadId"),
+    };
+    let code = member(alloc, "code", Js::Whole(code))?;
+    let name = text_member(alloc, "name", name)?;
+    object(alloc, [code, name])
+}
+
+fn default_space(alloc: Global) -> Result<Js, AllocError>
+    ensures { IfOk result (λ js. js ≡ default_js) }
+{
+    let spaces = Vec::from_array(alloc, [text(alloc, "default")?])?;
+    Ok(Js::Items(List::from_vec(spaces)))
+}
+
+fn row_fields(alloc: Global, version: Ver, row: Row) -> Result<Fields, AllocError>
+    ensures value { IfOk result (λ f. f.members ≡ row_members version row) }
+    ensures sound { OnOk result (is_sound (row_js version row) ≡ true) }
+{
+    let core = version.text(alloc)?;
+    let token = encode(alloc, row.number)?;
+    let fields = Fields::new(alloc)
+        .with("attributes", row.attributes.into_js())?
+        .with_text("coreMigrationVersion", Text::from_string(core))?
+        .with_text("id", row.id)?
+        .with("namespaces", default_space(alloc)?)?
+        .with("references", Js::Items(List::new(alloc)))?
+        .with_text("type", row.type_name)?
+        .with_text("version", Text::from_string(token))?;
+    Ok(fields)
+}
+
+fn row_object(alloc: Global, version: Ver, row: Row) -> Result<Js, AllocError>
+    ensures value { IfOk result (λ js. js ≡ row_js version row) }
+    ensures sound { OnOk result (is_sound (row_js version row) ≡ true) }
+{
+    let fields = row_fields(alloc, version, row)?;
+    Ok(fields.into_js())
+}
+
 fn wrapped(alloc: Global, key: &str, value: Js) -> Result<Js, AllocError>
     ensures { IfOk result (λ js. js ≡ Object (named key.now value ∷ [])) }
 {
     object(alloc, [member(alloc, key, value)?])
 }
 
-fn answer_object(alloc: Global, version: Ver, answer: &Answer) -> Result<Js, AllocError>
-    ensures value { IfOk result (λ js. js ≡ answer_js version answer.now) }
-    ensures sound { OnOk result (is_sound (answer_js version answer.now) ≡ true) }
+fn answer_object(alloc: Global, version: Ver, answer: Answer) -> Result<Js, AllocError>
+    ensures value { IfOk result (λ js. js ≡ answer_js version answer) }
+    ensures sound { OnOk result (is_sound (answer_js version answer) ≡ true) }
 {
     match answer {
         Answer::Object(row) => {
@@ -107,95 +107,122 @@ fn answer_object(alloc: Global, version: Ver, answer: &Answer) -> Result<Js, All
             let js = wrapped(alloc, "ok", row)?;
             Ok(js)
         }
-        Answer::Refused(cause) => {
-            let cause = refusal(alloc, *cause)?;
-            let js = wrapped(alloc, "error", cause)?;
+        Answer::Refused(refuse) => {
+            let refuse = refuse_object(alloc, refuse)?;
+            let js = wrapped(alloc, "error", refuse)?;
             Ok(js)
         }
     }
 }
 
-fn line_object(alloc: Global, version: Ver, answered: &Answered) -> Result<Js, AllocError>
-    ensures value { IfOk result (λ js. js ≡ line_js version answered.now) }
-    ensures sound { OnOk result (is_sound (line_js version answered.now) ≡ true) }
+fn line_object(alloc: Global, version: Ver, at: u64, answer: Answer) -> Result<Js, AllocError>
+    ensures value { IfOk result (λ js. js ≡ answer_line_js version (record { at = at; answer = answer })) }
+    ensures sound { OnOk result (is_sound (answer_line_js version (record { at = at; answer = answer })) ≡ true) }
 {
-    let answer = member(
-        alloc,
-        "answer",
-        answer_object(alloc, version, &answered.answer)?,
-    )?;
-    let at = member(alloc, "at", number(answered.at))?;
+    let answer = member(alloc, "answer", answer_object(alloc, version, answer)?)?;
+    let at = member(alloc, "at", number(at))?;
     let line = text_member(alloc, "line", "answer")?;
     let js = object(alloc, [answer, at, line])?;
     Ok(js)
 }
 
-/// The line that is printed for an answer.
-fn answer_line(alloc: Global, version: Ver, answered: &Answered) -> Result<List<u8>, AllocError>
-    ensures { IfOk result (λ line. line ≡ answer_text version answered.now) }
-{
-    let js = line_object(alloc, version, answered)?;
-    let mut line = print(alloc, &js)?;
-    line.push(b'\n')?;
-    Ok(line)
-}
-
-/// The lines that are printed for answers.
-pub fn answers_lines(
-    alloc: Global,
-    version: Ver,
-    all: &List<Answered>,
-) -> Result<List<u8>, AllocError>
-    ensures { IfOk result (λ lines. lines ≡ answers_text version all.now) }
-{
-    let mut lines = List::new(alloc);
-    for answered in all.as_slice() {
-        lines.extend_from_slice(answer_line(alloc, version, answered)?.as_slice())?;
-    }
-    Ok(lines)
-}
-
-fn printed_line(alloc: Global, js: &Js) -> Result<List<u8>, AllocError>
+/// Adds the line that a tree is printed as.
+fn add_line(alloc: Global, lines: &mut List<u8>, js: &Js) -> Result<(), AllocError>
     requires { is_sound js.now ≡ true }
-    ensures { IfOk result (λ line. line ≡ line_of js.now) }
+    ensures { OnOk result (lines.new ≡ lines.old ++ line_of js.now) }
 {
-    let mut line = print(alloc, js)?;
-    line.push(b'\n')?;
-    Ok(line)
+    lines.extend_from_slice(print(alloc, js)?.as_slice())?;
+    lines.push(b'\n')
 }
 
-/// The line for words that name no command.
-pub fn usage_line(alloc: Global) -> Result<List<u8>, AllocError>
-    ensures { IfOk result (λ line. line ≡ usage_text) }
+/// Adds the line of an answer to the call of the line `at`. After want of memory a part of it may
+/// have been added.
+pub(crate) fn add_answer_line(
+    alloc: Global,
+    lines: &mut List<u8>,
+    version: Ver,
+    at: u64,
+    answer: Answer,
+) -> Result<(), AllocError>
+    ensures { OnOk result (lines.new ≡ lines.old ++ answer_text version (record { at = at; answer = answer })) }
 {
-    let js = object(alloc, [text_member(alloc, "fault", "Usage")?])?;
-    let line = printed_line(alloc, &js)?;
-    Ok(line)
+    let js = line_object(alloc, version, at, answer)?;
+    add_line(alloc, lines, &js)?;
+    Ok(())
 }
 
-/// The line for an input line that is refused.
-pub fn bad_input_line(alloc: Global, at: u64) -> Result<List<u8>, AllocError>
-    ensures { IfOk result (λ line. line ≡ bad_input_text at) }
+fn kind_text(kind: InputKind) -> &'static str
+    ensures { result.now ≡ kind_name kind }
 {
-    let place = member(alloc, "at", number(at))?;
-    let fault = text_member(alloc, "fault", "BadInput")?;
-    let kind = text_member(alloc, "kind", "NotBuilt")?;
-    let js = object(alloc, [place, fault, kind])?;
-    let line = printed_line(alloc, &js)?;
-    Ok(line)
+    match kind {
+        InputKind::BadJson => "BadJson",
+        InputKind::TooDeep => "TooDeep",
+        InputKind::Fraction => "Fraction",
+        InputKind::NotObject => "NotObject",
+        InputKind::UnknownLine => "UnknownLine",
+        InputKind::MissingField => "MissingField",
+        InputKind::WrongKind => "WrongKind",
+        InputKind::UnknownField => "UnknownField",
+        InputKind::BadVersion => "BadVersion",
+        InputKind::BadSpace => "BadSpace",
+        InputKind::BadType => "BadType",
+        InputKind::BadId => "BadId",
+        InputKind::DuplicateType => "DuplicateType",
+        InputKind::BadKind => "BadKind",
+        InputKind::UnsortedVersions => "UnsortedVersions",
+        InputKind::BadOp => "BadOp",
+        InputKind::DuplicateRegistry => "DuplicateRegistry",
+        InputKind::DuplicateDoc => "DuplicateDoc",
+        InputKind::NotStated => "NotStated",
+        InputKind::Unplaced => "Unplaced",
+        InputKind::BadNumber => "BadNumber",
+        InputKind::NotBuilt => "NotBuilt",
+    }
 }
 
-/// The line for an input that passes a limit.
-pub fn limit_line(alloc: Global, which: Which) -> Result<List<u8>, AllocError>
-    ensures { IfOk result (λ line. line ≡ limit_text which) }
+fn which_text(which: Which) -> &'static str
+    ensures { result.now ≡ which_name which }
 {
-    let name = match which {
+    match which {
         Which::Line => "line",
         Which::Input => "input",
-    };
-    let fault = text_member(alloc, "fault", "Limit")?;
-    let which = text_member(alloc, "which", name)?;
-    let js = object(alloc, [fault, which])?;
-    let line = printed_line(alloc, &js)?;
+        Which::Instances => "instances",
+        Which::Clients => "clients",
+        Which::Objects => "objects",
+    }
+}
+
+fn fault_object(alloc: Global, fault: InputFault) -> Result<Js, AllocError>
+    ensures value { IfOk result (λ js. js ≡ fault_js fault) }
+    ensures sound { OnOk result (is_sound (fault_js fault) ≡ true) }
+{
+    match fault {
+        InputFault::Usage => {
+            let js = object(alloc, [text_member(alloc, "fault", "Usage")?])?;
+            Ok(js)
+        }
+        InputFault::BadInput { line, kind } => {
+            let at = member(alloc, "at", number(line))?;
+            let fault = text_member(alloc, "fault", "BadInput")?;
+            let kind = text_member(alloc, "kind", kind_text(kind))?;
+            let js = object(alloc, [at, fault, kind])?;
+            Ok(js)
+        }
+        InputFault::Limit(which) => {
+            let fault = text_member(alloc, "fault", "Limit")?;
+            let which = text_member(alloc, "which", which_text(which))?;
+            let js = object(alloc, [fault, which])?;
+            Ok(js)
+        }
+    }
+}
+
+/// The line of a fault of the words or the input.
+pub(crate) fn fault_line(alloc: Global, fault: InputFault) -> Result<List<u8>, AllocError>
+    ensures { IfOk result (λ line. line ≡ fault_text fault) }
+{
+    let js = fault_object(alloc, fault)?;
+    let mut line = List::new(alloc);
+    add_line(alloc, &mut line, &js)?;
     Ok(line)
 }

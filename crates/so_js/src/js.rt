@@ -3,7 +3,10 @@ ghost use Rattle.std.specs.Prelude.{◌≡◌, IfOk};
 use plain_data::{List, Text};
 use std::alloc::AllocError;
 
-/// A JSON value whose numbers are whole.
+/// A JSON value (RFC 8259) whose numbers are whole.
+///
+/// It is sound where, at every depth, each whole number is from -2^63 to 2^64 - 1 and the keys of
+/// each object rise strictly by bytes. A clone equals its tree, or is refused for want of memory.
 #[derive(Debug, Drop)]
 pub enum Js {
     Null,
@@ -14,7 +17,7 @@ pub enum Js {
     Object(List<Member>),
 }
 
-/// A member of an object.
+/// A member of an object. The parameter is there for specifications alone; code names `Member`.
 #[derive(Clone, Debug, Drop)]
 pub struct Member<V = Js> {
     pub key: Text,

@@ -6,11 +6,15 @@ ghost use Rattle.so_js.specs.Reading.{Gives, Converts, ReadsValue, tree_in};
 
 use crate::error::JsError;
 use crate::js::{Js, Member};
-use serde_json::{Map, Value};
 use plain_data::{List, Text};
+use serde_json::{Map, Value};
 use std::alloc::Global;
 
-/// The tree that the bytes stand for.
+/// The tree that the bytes stand for. Of a repeated key the last value stays.
+///
+/// Refused by the first of these: `BadJson`, `TooDeep` where lists and objects nest deeper than
+/// `depth`, and `Fraction`. The last two are judged on the tree that is left once repeated keys
+/// are merged. With `depth` 127 `TooDeep` never comes.
 pub fn parse(alloc: Global, bytes: &[u8], depth: u32) -> Result<Js, JsError>
     requires { depth ≤ 127 }
     ensures exact { Gives result (tree_in depth bytes.now) }

@@ -1,33 +1,43 @@
-ghost use Rattle.std.specs.Prelude.{◌≡◌, ◌≤◌, [], false, true, Err, is_err, ◌+◌, ◌<◌, IfErr, OnOk};
+ghost use Rattle.std.specs.Prelude.{◌≡◌, ◌≤◌, [], false, true, Err, is_err, ◌+◌, ◌<◌, IfErr, OnOk, OnErr};
 ghost use Rattle.std.specs.Io.KnownBytes.{prepend_known};
 ghost use Rattle.wire_io.specs.Causes.{Rose};
 ghost use Rattle.std.specs.Str.Lines.{strip_carriage_return};
-ghost use Rattle.wire_io.specs.Answers.{TakesByte, AnswersNext, CountsLine};
+ghost use Rattle.wire_io.specs.Answers.{TakesByte, AnswersNext, TakesBytes, CountsLine};
 
 use crate::source::Source;
 use plain_data::List;
 use std::alloc::{AllocError, Global};
 use std::marker::Model;
 
+// The bytes of one line, without its newline.
 const MAX_LINE: usize = 4_194_304;
 
+// The bytes of the whole input.
 const MAX_INPUT: u64 = 26_214_400;
 
+// How many bytes are asked of the source at a time.
 const PIECE: usize = 4096;
 
-/// A line without its end, or the end of the input.
+/// A line, or the end of the input.
 #[derive(Debug, Drop)]
 pub enum Line {
+    /// The bytes of a line without its newline, and without one carriage return before that.
     Text(List<u8>),
+    /// No line is left.
     End,
 }
 
 /// Why no line was read.
 #[derive(Clone, Copy, Debug, PartialEq, Eq)]
 pub enum ReadError {
+    /// Memory ran out.
     Memory,
+    /// The source failed.
     ReadFault,
+    /// 4,194,305 bytes of one line were read, a carriage return before its newline counted.
     LineTooLong,
+    /// 26,214,401 bytes of the input were read. Where one byte passes both limits, the line's
+    /// comes.
     InputTooLong,
 }
 
@@ -42,7 +52,8 @@ impl From<AllocError> for ReadError {
     }
 }
 
-/// What was read ahead of the lines, and how far they have come.
+/// A reader of lines: what was read ahead of them, how many bytes have come to them, and whether
+/// a line was refused.
 #[derive(Drop)]
 pub struct Lines {
     alloc: Global,
@@ -65,6 +76,7 @@ impl Model for Lines {
 }
 
 impl Lines {
+    /// A reader that has read nothing.
     pub fn new(alloc: Global) -> Lines
         ensures { result ≡ record { ahead = []; taken = 0; failed = false } }
     {
@@ -78,7 +90,7 @@ impl Lines {
         }
     }
 
-    /// Whether a line was refused.
+    /// Whether a line was refused, so that no further one may be asked for.
     pub fn has_failed(&self) -> bool
         ensures { result ≡ self.now.failed }
     {
@@ -96,6 +108,7 @@ impl Lines {
         ensures bytes { TakesByte (prepend_known self.old.ahead (S.left source.old))
             (prepend_known self.new.ahead (S.left source.new)) result }
         ensures counts { (self.new.taken ≡ self.old.taken) × (self.new.failed ≡ self.old.failed) }
+    ensures ahead { OnErr result (self.new.ahead ≡ []) }
         ensures later { S.faults source.old ≤ S.faults source.new }
         ensures fault { IfErr result (λ e. (e ≡ ReadError.ReadFault) × Rose (S.faults source.old) (S.faults source.new)) }
     {
@@ -126,17 +139,28 @@ impl Lines {
     }
 }
 
-/// The next line, or the end of the input. After a refusal `lines` has failed.
+/// The next line, or the end of the input. A line ends at a newline, and the last one needs none.
+/// After a refusal `lines` has failed.
+///
+/// `Memory` where memory ran out; `ReadFault` where the source failed; `LineTooLong` and
+/// `InputTooLong` at the first byte past a limit. Bytes that were read ahead count when a line
+/// comes to them. The source is read only where none are left ahead, so no line and no limit
+/// stands before a failed read.
 pub fn read_line<S: Source>(lines: &mut Lines, source: &mut S) -> Result<Line, ReadError>
     requires { lines.old.failed ≡ false }
     ensures next { AnswersNext lines.old.taken (prepend_known lines.old.ahead (S.left source.old))
         lines.new.taken (prepend_known lines.new.ahead (S.left source.new)) result }
 
-    // Each line takes a byte at least.
+    // A line takes its bytes. What came before a failed read is a part of a line at most.
+    ensures bytes { TakesBytes lines.old.taken lines.new.taken (prepend_known lines.old.ahead (S.left source.old))
+        (prepend_known lines.new.ahead (S.left source.new)) result }
+
+    // Each line takes a byte at least, and a limit is passed only by as many bytes.
     ensures counted { CountsLine lines.old.taken lines.new.taken result }
     ensures failed { lines.new.failed ≡ is_err result }
     ensures later { S.faults source.old ≤ S.faults source.new }
     ensures fault { result ≡ Err ReadError.ReadFault → Rose (S.faults source.old) (S.faults source.new) }
+    ensures ahead { result ≡ Err ReadError.ReadFault → lines.new.ahead ≡ [] }
 {
     let next = next_line(lines, source);
     lines.failed = next.is_err();
@@ -147,10 +171,15 @@ fn next_line<S: Source>(lines: &mut Lines, source: &mut S) -> Result<Line, ReadE
     ensures next { AnswersNext lines.old.taken (prepend_known lines.old.ahead (S.left source.old))
         lines.new.taken (prepend_known lines.new.ahead (S.left source.new)) result }
 
-    // Each line takes a byte at least.
+    // A line takes its bytes. What came before a failed read is a part of a line at most.
+    ensures bytes { TakesBytes lines.old.taken lines.new.taken (prepend_known lines.old.ahead (S.left source.old))
+        (prepend_known lines.new.ahead (S.left source.new)) result }
+
+    // Each line takes a byte at least, and a limit is passed only by as many bytes.
     ensures counted { CountsLine lines.old.taken lines.new.taken result }
     ensures later { S.faults source.old ≤ S.faults source.new }
     ensures fault { result ≡ Err ReadError.ReadFault → Rose (S.faults source.old) (S.faults source.new) }
+    ensures ahead { result ≡ Err ReadError.ReadFault → lines.new.ahead ≡ [] }
 {
     let mut line = List::new(lines.alloc());
     while let Some(byte) = lines.next_byte(source)? {

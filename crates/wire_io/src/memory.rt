@@ -9,7 +9,8 @@ use plain_data::List;
 use std::alloc::Global;
 use std::marker::Model;
 
-/// A source in memory. Its listed calls fail, counted from 0.
+/// A source in memory, which tells what is left. Its reads are numbered from 0, and those listed
+/// fail.
 #[derive(Debug, Drop)]
 pub struct MemSource {
     bytes: List<u8>,
@@ -32,6 +33,7 @@ impl Model for MemSource {
 }
 
 impl MemSource {
+    /// A source of these bytes that gives at most `piece` of them in one read.
     pub fn new(bytes: List<u8>, piece: usize, failing: List<u64>) -> MemSource
         requires { 0 < piece }
         ensures { result ≡ record { left = bytes; piece = piece; failing = failing; calls = 0; faults = 0 } }
@@ -82,7 +84,8 @@ fn copy_front(from: &[u8], into: &mut [u8], at_most: usize) -> usize
     count
 }
 
-/// A sink in memory. Its listed calls fail, counted from 0.
+/// A sink in memory, which tells what it holds. Its writes are numbered from 0; those listed fail,
+/// and so does one that finds no memory.
 #[derive(Debug, Drop)]
 pub struct MemSink {
     held: List<u8>,
@@ -100,6 +103,7 @@ impl Model for MemSink {
 }
 
 impl MemSink {
+    /// A sink that holds nothing.
     pub fn new(alloc: Global, failing: List<u64>) -> MemSink
         ensures { result ≡ record { held = []; failing = failing; calls = 0; faults = 0 } }
     {
@@ -111,6 +115,7 @@ impl MemSink {
         }
     }
 
+    /// What was written.
     pub fn held(&self) -> &[u8]
         ensures { result.now ≡ self.now.held }
     {

@@ -1,0 +1,13 @@
+pub mod Showing
+pub mod Calm
+pub mod Claiming
+pub mod Starting
+pub mod Beginning
+pub mod Ways
+pub mod Unhindered
+pub mod Going
+pub mod Ending
+pub mod OneVersion
+pub mod OneClaim
+pub mod Unfailing
+pub mod Laws

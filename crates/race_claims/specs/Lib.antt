@@ -1,0 +1,4 @@
+pub mod Shown
+pub mod Unhindered
+pub mod OneVersion
+pub mod Unfailing

@@ -1,0 +1,7 @@
+pub mod Lining
+pub mod Histories
+pub mod Telling
+pub mod Ending
+pub mod Opening
+pub mod Claiming
+pub mod Laws

@@ -1,0 +1,2 @@
+//! Worked rows of the race, which compute.
+#![tactic(auto)]
