@@ -1,5 +1,5 @@
 -- The parts of an alias document meet what each document does.
-use Rattle.std.proofs.Common.{◌≡◌, ◌&&◌, ◌∷◌, [], List, map, true, refl, ◌∙◌}
+use Rattle.std.proofs.Common.{◌≡◌, ◌∷◌, [], map, true, refl, ◌∙◌}
 use Rattle.std.specs.List.{list_all}
 use Rattle.std.proofs.lemmas.Bool.{and_from}
 use Rattle.base_model.specs.Keyed.{Text, Keyed}

@@ -10,3 +10,6 @@ pub use error::SpaceError;
 pub use kind::Kind;
 pub use space::Space;
 pub use space_id::{SpaceId, is_space_id};
+
+#[cfg(test)]
+mod tests;
