@@ -12,7 +12,7 @@ trap 'rm -rf "$made"' EXIT
 rustc -O -o "$made/mutex" bench/mutex.rs
 gate=${GATE:-crates/gate_bench/out/gate_bench}
 if [ ! -x "$gate" ]; then
-    (cd crates/gate_bench && rt run -- 1 1 1 >"$made/build.log" 2>&1) || { tail "$made/build.log"; exit 1; }
+    (cd crates/gate_bench && rt run -- 8 25 100 >"$made/build.log" 2>&1) || { tail "$made/build.log"; exit 1; }
 fi
 
 TIMEFORMAT='%R %U %S'

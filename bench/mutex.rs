@@ -27,9 +27,18 @@ impl Tally {
 }
 
 fn main() {
-    let words: Vec<u64> = std::env::args().skip(1).map(|word| word.parse().expect("a number")).collect();
-    let [actors, turns, rounds] = words[..] else { panic!("the words are ACTORS TURNS ROUNDS") };
-    let tally = Mutex::new(Tally { rounds, mixed: 88_172_645_463_325_252, added: Vec::new() });
+    let words: Vec<u64> = std::env::args()
+        .skip(1)
+        .map(|word| word.parse().expect("a number"))
+        .collect();
+    let [actors, turns, rounds] = words[..] else {
+        panic!("the words are ACTORS TURNS ROUNDS")
+    };
+    let tally = Mutex::new(Tally {
+        rounds,
+        mixed: 88_172_645_463_325_252,
+        added: Vec::new(),
+    });
     thread::scope(|scope| {
         for actor in 0..actors {
             let tally = &tally;
@@ -41,5 +50,9 @@ fn main() {
         }
     });
     let tally = tally.into_inner().expect("no thread panics");
-    println!("actors {actors}, turns {turns}, entries {}, word {}", tally.added.len(), tally.mixed);
+    println!(
+        "actors {actors}, turns {turns}, entries {}, word {}",
+        tally.added.len(),
+        tally.mixed
+    );
 }
