@@ -108,7 +108,7 @@ impl Lines {
         ensures bytes { TakesByte (prepend_known self.old.ahead (S.left source.old))
             (prepend_known self.new.ahead (S.left source.new)) result }
         ensures counts { (self.new.taken ≡ self.old.taken) × (self.new.failed ≡ self.old.failed) }
-    ensures ahead { OnErr result (self.new.ahead ≡ []) }
+        ensures ahead { OnErr result (self.new.ahead ≡ []) }
         ensures later { S.faults source.old ≤ S.faults source.new }
         ensures fault { IfErr result (λ e. (e ≡ ReadError.ReadFault) × Rose (S.faults source.old) (S.faults source.new)) }
     {
