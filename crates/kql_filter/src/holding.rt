@@ -8,23 +8,23 @@ ghost use Rattle.kql_filter.specs.Tree.{tree_of};
 ghost use Rattle.kql_filter.specs.Meaning.{stripped, path_of as path_under, value_along, relates as relates_by, holds_of_text, holds_of_whole, holds_of_bool, is_present, passes, field_holds, meaning, is_number};
 
 use crate::lexing::number;
-use crate::tree::{Expr, Rel, Test};
-use so_js::{Js, Member};
+use crate::tree::{Expression, Relation, Test};
 use plain_data::List;
+use so_js::{Js, Member};
 
 /// What the tree says of an object of this type.
-pub fn holds_tree(expr: &Expr, type_name: &str, attributes: &Js) -> bool
-    ensures { result ≡ meaning (tree_of expr.now) type_name.now attributes.now }
+pub fn holds_tree(expression: &Expression, type_name: &str, attributes: &Js) -> bool
+    ensures { result ≡ meaning (tree_of expression.now) type_name.now attributes.now }
 {
-    match expr {
-        Expr::Or(left, right) => {
+    match expression {
+        Expression::Or(left, right) => {
             holds_tree(left, type_name, attributes) || holds_tree(right, type_name, attributes)
         }
-        Expr::And(left, right) => {
+        Expression::And(left, right) => {
             holds_tree(left, type_name, attributes) && holds_tree(right, type_name, attributes)
         }
-        Expr::Not(inner) => !holds_tree(inner, type_name, attributes),
-        Expr::Field(name, test) => {
+        Expression::Not(inner) => !holds_tree(inner, type_name, attributes),
+        Expression::Field(name, test) => {
             field_passes(name.as_slice(), test, type_name.as_bytes(), attributes)
         }
     }
@@ -127,7 +127,7 @@ fn whole_passes(test: &Test, whole: i128) -> bool
         Test::Present => true,
         Test::Word(word) => writes(word.as_slice(), whole),
         Test::Prefix(_) | Test::Quoted(_) => false,
-        Test::Compare(rel, bound) => relates(*rel, *bound, whole),
+        Test::Compare(relation, bound) => relates(*relation, *bound, whole),
     }
 }
 
@@ -140,14 +140,14 @@ fn writes(word: &[u8], whole: i128) -> bool
     }
 }
 
-fn relates(rel: Rel, bound: i128, whole: i128) -> bool
-    ensures { result ≡ relates_by rel bound whole }
+fn relates(relation: Relation, bound: i128, whole: i128) -> bool
+    ensures { result ≡ relates_by relation bound whole }
 {
-    match rel {
-        Rel::AtMost => whole <= bound,
-        Rel::AtLeast => whole >= bound,
-        Rel::Below => whole < bound,
-        Rel::Above => whole > bound,
+    match relation {
+        Relation::AtMost => whole <= bound,
+        Relation::AtLeast => whole >= bound,
+        Relation::Below => whole < bound,
+        Relation::Above => whole > bound,
     }
 }
 

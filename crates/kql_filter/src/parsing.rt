@@ -6,7 +6,7 @@ ghost use Rattle.kql_filter.specs.Parsing.{value_at as value_read, compared as c
 use crate::lexing::{
     after_byte, after_joint, after_prefix, after_spaces, number_at, quoted, word_at,
 };
-use crate::tree::{Expr, FilterError, Rel, Test};
+use crate::tree::{Expression, FilterError, Relation, Test};
 use plain_data::List;
 use std::alloc::Global;
 
@@ -31,12 +31,12 @@ fn value_at(alloc: Global, bytes: &[u8]) -> Result<(Test, &[u8]), FilterError>
     }
 }
 
-fn compared(rel: Rel, bytes: &[u8]) -> Result<(Test, &[u8]), FilterError>
-    ensures read { Gives (λ x. (x.0, x.1.now)) result (compared_read rel bytes.now) }
+fn compared(relation: Relation, bytes: &[u8]) -> Result<(Test, &[u8]), FilterError>
+    ensures read { Gives (λ x. (x.0, x.1.now)) result (compared_read relation bytes.now) }
     ensures shorter { IfOk result (λ x. length x.1.now ≤ length bytes.now) }
 {
     let (whole, rest) = number_at(after_spaces(bytes)).ok_or(FilterError::BadFilter)?;
-    Ok((Test::Compare(rel, whole), rest))
+    Ok((Test::Compare(relation, whole), rest))
 }
 
 fn test_at(alloc: Global, bytes: &[u8]) -> Result<(Test, &[u8]), FilterError>
@@ -45,25 +45,28 @@ fn test_at(alloc: Global, bytes: &[u8]) -> Result<(Test, &[u8]), FilterError>
 {
     match bytes {
         [b':', rest @ ..] => value_at(alloc, after_spaces(rest)),
-        [b'<', b'=', rest @ ..] => compared(Rel::AtMost, rest),
-        [b'<', rest @ ..] => compared(Rel::Below, rest),
-        [b'>', b'=', rest @ ..] => compared(Rel::AtLeast, rest),
-        [b'>', rest @ ..] => compared(Rel::Above, rest),
+        [b'<', b'=', rest @ ..] => compared(Relation::AtMost, rest),
+        [b'<', rest @ ..] => compared(Relation::Below, rest),
+        [b'>', b'=', rest @ ..] => compared(Relation::AtLeast, rest),
+        [b'>', rest @ ..] => compared(Relation::Above, rest),
         _ => Err(FilterError::BadFilter),
     }
 }
 
-fn field_at(alloc: Global, bytes: &[u8]) -> Result<(Expr, &[u8]), FilterError>
+fn field_at(alloc: Global, bytes: &[u8]) -> Result<(Expression, &[u8]), FilterError>
     ensures read { Gives (λ x. (tree_of x.0, x.1.now)) result (field_read bytes.now) }
     ensures shorter { IfOk result (λ x. length x.1.now ≤ length bytes.now) }
 {
     let (name, rest) = word_at(bytes).ok_or(FilterError::BadFilter)?;
     let (test, rest) = test_at(alloc, after_spaces(rest))?;
-    Ok((Expr::Field(List::from_slice(alloc, name)?, test), rest))
+    Ok((
+        Expression::Field(List::from_slice(alloc, name)?, test),
+        rest,
+    ))
 }
 
 #[cycle(parse)]
-pub fn or_at(alloc: Global, bytes: &[u8], depth: u32) -> Result<(Expr, &[u8]), FilterError>
+pub fn or_at(alloc: Global, bytes: &[u8], depth: u32) -> Result<(Expression, &[u8]), FilterError>
     ensures read { Gives (λ x. (tree_of x.0, x.1.now)) result (or_by (not_read depth) bytes.now) }
     ensures shorter { IfOk result (λ x. length x.1.now ≤ length bytes.now) }
 {
@@ -74,13 +77,13 @@ pub fn or_at(alloc: Global, bytes: &[u8], depth: u32) -> Result<(Expr, &[u8]), F
             let (right, rest) = or_at(alloc, after, depth)?;
             let left = Box::new(alloc, left)?;
             let right = Box::new(alloc, right)?;
-            Ok((Expr::Or(left, right), rest))
+            Ok((Expression::Or(left, right), rest))
         }
     }
 }
 
 #[cycle(parse)]
-fn and_at(alloc: Global, bytes: &[u8], depth: u32) -> Result<(Expr, &[u8]), FilterError>
+fn and_at(alloc: Global, bytes: &[u8], depth: u32) -> Result<(Expression, &[u8]), FilterError>
     ensures read { Gives (λ x. (tree_of x.0, x.1.now)) result (and_by (not_read depth) bytes.now) }
     ensures shorter { IfOk result (λ x. length x.1.now ≤ length bytes.now) }
 {
@@ -91,13 +94,13 @@ fn and_at(alloc: Global, bytes: &[u8], depth: u32) -> Result<(Expr, &[u8]), Filt
             let (right, rest) = and_at(alloc, after, depth)?;
             let left = Box::new(alloc, left)?;
             let right = Box::new(alloc, right)?;
-            Ok((Expr::And(left, right), rest))
+            Ok((Expression::And(left, right), rest))
         }
     }
 }
 
 #[cycle(parse)]
-fn not_at(alloc: Global, bytes: &[u8], depth: u32) -> Result<(Expr, &[u8]), FilterError>
+fn not_at(alloc: Global, bytes: &[u8], depth: u32) -> Result<(Expression, &[u8]), FilterError>
     ensures read { Gives (λ x. (tree_of x.0, x.1.now)) result (not_read depth bytes.now) }
     ensures shorter { IfOk result (λ x. length x.1.now ≤ length bytes.now) }
 {
@@ -106,13 +109,13 @@ fn not_at(alloc: Global, bytes: &[u8], depth: u32) -> Result<(Expr, &[u8]), Filt
         Some(_) if depth == 0 => Err(FilterError::BadFilter),
         Some(after) => {
             let (inner, rest) = not_at(alloc, after, depth - 1)?;
-            Ok((Expr::Not(Box::new(alloc, inner)?), rest))
+            Ok((Expression::Not(Box::new(alloc, inner)?), rest))
         }
     }
 }
 
 #[cycle(parse)]
-fn atom_at(alloc: Global, bytes: &[u8], depth: u32) -> Result<(Expr, &[u8]), FilterError>
+fn atom_at(alloc: Global, bytes: &[u8], depth: u32) -> Result<(Expression, &[u8]), FilterError>
     ensures read { Gives (λ x. (tree_of x.0, x.1.now)) result (atom_within depth bytes.now) }
     ensures shorter { IfOk result (λ x. length x.1.now ≤ length bytes.now) }
 {
@@ -137,15 +140,15 @@ const LONGEST: usize = 4096;
 
 /// The tree of a whole text.
 #[tactic(auto, unfolding(crate::specs::Parsing::tree_in))]
-pub fn tree(alloc: Global, text: &[u8]) -> Result<Expr, FilterError>
+pub fn tree(alloc: Global, text: &[u8]) -> Result<Expression, FilterError>
     ensures { Gives tree_of result (tree_in text.now) }
 {
     if text.len() > LONGEST {
         return Err(FilterError::BadFilter);
     }
-    let (expr, rest) = or_at(alloc, after_spaces(text), DEPTH)?;
+    let (expression, rest) = or_at(alloc, after_spaces(text), DEPTH)?;
     match after_spaces(rest) {
-        [] => Ok(expr),
+        [] => Ok(expression),
         _ => Err(FilterError::BadFilter),
     }
 }

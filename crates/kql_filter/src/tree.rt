@@ -3,11 +3,16 @@ ghost use Rattle.kql_filter.specs.declared.tree.FilterError.TheVariants.{Memory}
 
 use plain_data::List;
 use std::alloc::{AllocError, AllocFailed};
+use thiserror::Error;
 
 /// Why a text was not read as a filter.
-#[derive(Clone, Copy, Debug, PartialEq, Eq)]
+#[derive(Clone, Copy, Debug, PartialEq, Eq, Error)]
 pub enum FilterError {
+    /// Memory ran out.
+    #[error("out of memory")]
     Memory,
+    /// The text is no filter.
+    #[error("no filter")]
     BadFilter,
 }
 
@@ -29,7 +34,7 @@ impl<T: Drop> From<AllocFailed<T>> for FilterError {
 
 /// A relation between whole numbers.
 #[derive(Clone, Copy, Debug, PartialEq, Eq)]
-pub enum Rel {
+pub enum Relation {
     AtMost,
     AtLeast,
     Below,
@@ -43,14 +48,14 @@ pub enum Test {
     Word(List<u8>),
     Prefix(List<u8>),
     Quoted(List<u8>),
-    Compare(Rel, i128),
+    Compare(Relation, i128),
 }
 
 /// The tree of a filter.
 #[derive(Debug, Drop)]
-pub enum Expr {
-    Or(Box<Expr>, Box<Expr>),
-    And(Box<Expr>, Box<Expr>),
-    Not(Box<Expr>),
+pub enum Expression {
+    Or(Box<Expression>, Box<Expression>),
+    And(Box<Expression>, Box<Expression>),
+    Not(Box<Expression>),
     Field(List<u8>, Test),
 }

@@ -1,5 +1,5 @@
 -- The compact text of a sound tree is read as what the tree stands for.
-use Rattle.std.proofs.Common.{◌≡◌, ℕ, suc, ◌<◌, ◌≤◌, ◌^◌, map, List, [], ◌∷◌, ◌++◌, Option, Some, option_map, option_and_then, Bool, true, nat_lt, Less, Greater, refl, sym, ap, ◌∙◌, subst, arith, append-nil}
+use Rattle.std.proofs.Common.{◌≡◌, ℕ, suc, ◌<◌, ◌≤◌, ◌^◌, map, List, [], ◌∷◌, ◌++◌, Option, Some, option_map, option_and_then, Bool, true, Less, Greater, refl, sym, ap, ◌∙◌, subst, arith, append-nil}
 use Rattle.std.proofs.lemmas.Bool.{and_parts}
 use Rattle.std.proofs.lemmas.Bool.Decides.{nat_tests}
 use Rattle.std.specs.Prelude.{⊤, pos, negsuc, ℤ}

@@ -17,7 +17,10 @@ fn reads_and_prints(rt: HostRuntime) -> Result<(), Fail> {
             r#" {"b":[1,-2,"x"], "a":{"k":null,"k":true,"":false}}"#,
             Ok(r#"{"a":{"":false,"k":true},"b":[1,-2,"x"]}"#),
         ),
-        (r#""\u00e9\n\/\"\u0001\ud83d\ude00""#, Ok(r#""é\n/\"\u0001😀""#)),
+        (
+            r#""\u00e9\n\/\"\u0001\ud83d\ude00""#,
+            Ok(r#""é\n/\"\u0001😀""#),
+        ),
         ("18446744073709551615", Ok("18446744073709551615")),
         ("-9223372036854775808", Ok("-9223372036854775808")),
         ("[[]]", Ok("[[]]")),
@@ -51,7 +54,10 @@ fn bytes_and_depth(rt: HostRuntime) -> Result<(), Fail> {
     let deepest = "[".repeat(rt.alloc(), 127)?;
     let closed = "]".repeat(rt.alloc(), 127)?;
     let text = format!(in rt.alloc(); "{deepest}{closed}")?;
-    assert_eq!(rt; printed(rt.alloc(), &text, 127)?.as_slice(), text.as_bytes());
+    assert_eq!(rt;
+        printed(rt.alloc(), &text, 127)?.as_slice(),
+        text.as_bytes()
+    );
     let text = format!(in rt.alloc(); "[{deepest}{closed}]")?;
     assert!(rt; printed(rt.alloc(), &text, 127).is_err_and(|e| e == JsError::BadJson));
     Ok(())

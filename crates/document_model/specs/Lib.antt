@@ -1,0 +1,4 @@
+pub mod Names
+pub mod Documents
+pub mod Registries
+pub mod Migrations

@@ -1,0 +1,8 @@
+//! The definitions of documents: type names, raw ids, visibility, registries, and migrating one document.
+#![tactic(auto)]
+
+mod names;
+mod reference;
+
+pub use names::{is_document_member, is_type_name};
+pub use reference::Ref;
