@@ -57,14 +57,15 @@ advanced_by_line : (input now new lines text body : List ℕ) (taken after n : �
     → Advanced input new (lines ++ (body ++ 10 ∷ [])) after (n + 1) next
 advanced_by_line input now new lines text body taken after n s next small so_far takes e =
     let told : (more : List ℕ) → stream_from taken [] (body ++ 10 ∷ more) ≡ line text (stream_from after [] more) =
-        λ more. stream_from-line body [] more taken after takes.part.no_newline (omega (arith, takes.part.short)) takes.counts small ∙ ap (λ t. line t (stream_from after [] more)) (sym takes.is) in
+    λ more. stream_from-line body [] more taken after takes.part.no_newline (omega (arith, takes.part.short)) takes.counts small ∙ ap (λ t. line t (stream_from after [] more)) (sym takes.is) in
     record {
       bytes = so_far.bytes ∙ ap (λ rest. lines ++ rest) takes.bytes ∙ sym (append_assoc lines (body ++ 10 ∷ []) new);
       counts = omega (arith, length-append lines (body ++ 10 ∷ []), length-append body (10 ∷ []), so_far.counts, takes.counts);
       ended = inr (lines ++ body, sym (append_assoc lines body (10 ∷ [])));
       goes_on = λ more.
           ap scenario_of (append_assoc lines (body ++ 10 ∷ []) more ∙ ap (λ rest. lines ++ rest) (append_assoc body (10 ∷ []) more))
-          ∙ so_far.goes_on (body ++ 10 ∷ more) ∙ ap (λ stream. scenario_from stream n (Ok s)) (told more) ∙ ap (scenario_from (stream_from after [] more) (n + 1)) e }
+          ∙ so_far.goes_on (body ++ 10 ∷ more) ∙ ap (λ stream. scenario_from stream n (Ok s)) (told more) ∙ ap (scenario_from (stream_from after [] more) (n + 1)) e;
+    }
 
 finished_by_last : (input now new lines text : List ℕ) (taken after n : ℕ) (s next : Scenario) → Advanced input now lines taken n s → TakesLast taken after (Some now) (Some new) text → stream_from taken [] now ≡ line text (stream_from after [] new) → placed (n + 1) (with_line s (n + 1) text) ≡ Ok next
     → Finished input new after next
@@ -72,7 +73,8 @@ finished_by_last input now new lines text taken after n s next so_far takes is e
     record {
       rest = takes.bytes.1;
       counts = omega (arith, ap length so_far.bytes, length-append lines now, so_far.counts, ap length takes.bytes.0, takes.counts);
-      said = ap scenario_of so_far.bytes ∙ so_far.goes_on now ∙ ap (λ stream. scenario_from stream n (Ok s)) is ∙ ap (scenario_from (stream_from after [] new) (n + 1)) e ∙ ap (λ rest. scenario_from (stream_from after [] rest) (n + 1) (Ok next)) takes.bytes.1 }
+      said = ap scenario_of so_far.bytes ∙ so_far.goes_on now ∙ ap (λ stream. scenario_from stream n (Ok s)) is ∙ ap (scenario_from (stream_from after [] new) (n + 1)) e ∙ ap (λ rest. scenario_from (stream_from after [] rest) (n + 1) (Ok next)) takes.bytes.1;
+    }
 
 -- one line more
 pub advances_by_line : (old now new : Option (List ℕ)) (taken after n : ℕ) (s next : Scenario) (text : List ℕ) → after ≤ 26214400 → Advances old taken now n s → TakesBytes taken after now new (Ok (Text text)) → AnswersNext taken now after new (Ok (Text text)) → placed (n + 1) (with_line s (n + 1) text) ≡ Ok next
@@ -100,19 +102,27 @@ pub fault_is_first : (old now left : Option (List ℕ)) (taken n : ℕ) (s : Sce
 fault_is_first None now left taken n s part a p c = tt
 fault_is_first (Some input) None left taken n s part a p c = absurd a
 fault_is_first (Some input) (Some now) None taken n s part a p c = absurd c
-fault_is_first (Some input) (Some now) (Some left) taken n s part (inl a) p c =
-    (a.0, part, record {
-      bytes = a.1.bytes ∙ ap (λ rest. a.0 ++ rest) c;
-      ended = inl a.1.ended;
-      accepted = ap (λ lines. is_ok (scenario_of lines)) (sym (append-nil a.0)) ∙ ap is_ok (a.1.goes_on []);
-      within = subst (λ k. IsPart k part) (sym a.1.counts) p })
+fault_is_first (Some input) (Some now) (Some left) taken n s part (inl a) p c = (
+  a.0,
+  part,
+  record {
+    bytes = a.1.bytes ∙ ap (λ rest. a.0 ++ rest) c;
+    ended = inl a.1.ended;
+    accepted = ap (λ lines. is_ok (scenario_of lines)) (sym (append-nil a.0)) ∙ ap is_ok (a.1.goes_on []);
+    within = subst (λ k. IsPart k part) (sym a.1.counts) p;
+  },
+)
 fault_is_first (Some input) (Some now) (Some left) taken n s part (inr f) p c =
-    let none : part ++ left ≡ [] = sym c ∙ f.rest in
-    (input, part, record {
-      bytes = sym (append-nil input) ∙ ap (λ rest. input ++ rest) (sym none);
-      ended = inr none;
-      accepted = ap is_ok f.said;
-      within = subst (λ k. IsPart k part) (sym f.counts) p })
+    let none : part ++ left ≡ [] = sym c ∙ f.rest in (
+      input,
+      part,
+      record {
+        bytes = sym (append-nil input) ∙ ap (λ rest. input ++ rest) (sym none);
+        ended = inr none;
+        accepted = ap is_ok f.said;
+        within = subst (λ k. IsPart k part) (sym f.counts) p;
+      },
+    )
 
 -- the refusal of a line that was not read is a failed read only where the read failed
 pub fault_of_read : (old now left : Option (List ℕ)) (taken after n : ℕ) (s : Scenario) (ahead : List ℕ) (refused : ReadError) → Advances old taken now n s → TakesBytes taken after now (prepend_known ahead left) (Err refused) → (refused ≡ read.ReadFault → ahead ≡ [])

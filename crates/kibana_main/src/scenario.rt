@@ -113,12 +113,7 @@ fn take_numbered(
     }
 }
 
-fn take_line(
-    alloc: Global,
-    scenario: Scenario,
-    at: u64,
-    line: &[u8],
-) -> Result<Scenario, LineError>
+fn take_line(alloc: Global, scenario: Scenario, at: u64, line: &[u8]) -> Result<Scenario, LineError>
     ensures { Gives result (with_line scenario at line.now) }
 {
     if line.is_empty() {
@@ -142,12 +137,7 @@ fn read_tree(alloc: Global, line: &[u8]) -> Result<Js, LineError>
     }
 }
 
-fn take_tree(
-    alloc: Global,
-    scenario: Scenario,
-    at: u64,
-    js: &Js,
-) -> Result<Scenario, LineError>
+fn take_tree(alloc: Global, scenario: Scenario, at: u64, js: &Js) -> Result<Scenario, LineError>
     requires { is_sound js.now ≡ true }
     ensures { Gives result (with_tree scenario at js.now) }
 {

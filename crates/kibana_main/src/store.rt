@@ -100,12 +100,7 @@ impl Store {
             .find(|row| row.type_name == *type_name && row.id == *id)
     }
 
-    fn get(
-        &self,
-        registry: &Registry,
-        type_name: &Text,
-        id: &Text,
-    ) -> Result<Answer, AllocError>
+    fn get(&self, registry: &Registry, type_name: &Text, id: &Text) -> Result<Answer, AllocError>
         ensures { IfOk result (λ answer. answer ≡ got registry.now self.now type_name.now id.now) }
     {
         if let Some(refuse) = refused_by_words(registry, type_name, id) {
