@@ -145,7 +145,8 @@ fn meets_cuts_and_faults(rt: HostRuntime) -> Result<(), Fail> {
         );
     }
     let input = format!(in alloc; "{REGISTRY}{CREATE}{GET}")?;
-    let reads = input.len() as u64 / 16 + 2;
+    // the last line ends at the end of the input, which is read once more
+    let reads = input.len() as u64 / 16 + 3;
     for failing in 0..reads {
         let (status, sink) = run(alloc, "apply", input.as_bytes(), failing, NEVER)?;
         assert_eq!(rt; status, 4);
