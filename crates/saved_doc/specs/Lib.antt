@@ -1,5 +1,0 @@
-pub mod Trees
-pub mod Reading
-pub mod Writing
-pub mod Stored
-pub mod Beside
