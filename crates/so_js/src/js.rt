@@ -11,9 +11,12 @@ use std::alloc::AllocError;
 pub enum Js {
     Null,
     Bool(bool),
+    /// A whole number, from -2^63 to 2^64 - 1.
     Whole(i128),
     Str(Text),
+    /// An array, in its order.
     Items(List<Js>),
+    /// An object, its keys rising by bytes, each once.
     Object(List<Member>),
 }
 

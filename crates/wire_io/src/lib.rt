@@ -2,8 +2,6 @@
 //! of what may be wrong with an input.
 #![tactic(auto)]
 
-ghost use Rattle.std.specs.Prelude.{◌<◌};
-
 mod adapters;
 mod fault;
 mod lines;
@@ -19,50 +17,4 @@ pub use sink::{Sink, WriteFault, write_all_of};
 pub use source::{Failed, Source};
 
 #[cfg(test)]
-mod tests {
-    use super::*;
-    use plain_data::List;
-    use std::alloc::Global;
-    use std::test::Fail;
-
-    fn source(alloc: Global, bytes: &[u8], piece: usize, failing: &[u64]) -> Result<MemSource, Fail>
-        requires { 0 < piece }
-    {
-        Ok(MemSource::new(
-            List::from_slice(alloc, bytes)?,
-            piece,
-            List::from_slice(alloc, failing)?,
-        ))
-    }
-
-    #[test]
-    fn reads_lines(rt: HostRuntime) -> Result<(), Fail> {
-        let mut source = source(rt.alloc(), b"one\r\n\ntwo\rx\nlast\r", 2, &[])?;
-        let mut lines = Lines::new(rt.alloc());
-        let mut all = Vec::new(rt.alloc());
-        for _ in 0..9u8 {
-            if lines.has_failed() {
-                break;
-            }
-            match read_line(&mut lines, &mut source) {
-                Ok(Line::Text(text)) => {
-                    all.extend_from_slice(text.as_slice())?;
-                    all.push(b'|')?;
-                }
-                Ok(Line::End) => break,
-                Err(_) => break,
-            }
-        }
-        assert_eq!(rt; all.as_slice(), b"one||two\rx|last\r|".as_slice());
-        Ok(())
-    }
-
-    #[test]
-    fn writes_until_a_fault(rt: HostRuntime) -> Result<(), Fail> {
-        let mut sink = MemSink::new(rt.alloc(), List::from_slice(rt.alloc(), &[1])?);
-        assert_eq!(rt; write_all_of(&mut sink, b"first"), Ok(()));
-        assert_eq!(rt; write_all_of(&mut sink, b"second"), Err(WriteFault));
-        assert_eq!(rt; sink.held(), b"first".as_slice());
-        Ok(())
-    }
-}
+mod tests;
