@@ -1,5 +1,5 @@
 -- Rollouts for which all premises hold: a chain of three versions, over documents and over nothing, with clients that write.
-use Rattle.std.proofs.Common.{◌≡◌, ◌≢◌, ◌<◌, ◌⊎◌, ℕ, List, [], ◌∷◌, Bool, true, false, Option, Some, None, refl, sym, ap, subst, arith, if◌then◌else◌, ◌==◌}
+use Rattle.std.proofs.Common.{◌≡◌, ◌≢◌, ◌<◌, ◌^◌, ℕ, List, [], ◌∷◌, Bool, true, false, Option, Some, None, refl, sym, ap, subst, arith, if◌then◌else◌, ◌==◌}
 use mathlib.Core.Logic.◌⊎◌.{inl, inr}
 use lib.Chars.{codes}
 use Rattle.base_model.specs.Keyed.{Text, Keyed, same, text_lt, at}
@@ -9,18 +9,22 @@ use Rattle.race_model.specs.Worlds.Event.{Step}
 use Rattle.race_model.specs.Journals.{Has}
 use Rattle.race_model.specs.Sorted.{AllAbove, IsSorted}
 use Rattle.race_model.specs.Openings.{world_after}
-use Rattle.race_tables.proofs.Keys.{apart_from_false}
 use Rattle.race_follow.proofs.Laws.{worlds_conform}
 use Rattle.space_scope.specs.declared.kind.Kind.TheVariants.{Single}
 use Rattle.document_model.specs.Documents.{Doc, lists}
+use Rattle.version_token.specs.declared.Ver.{Ver}
+use Rattle.version_token.specs.Version.{IsVer}
+use Rattle.raw_id.specs.IndexNames.{version_alias}
+use Rattle.call_model.specs.Words.{Words}
 use Rattle.call_model.specs.Scripts.{Script}
 use Rattle.call_model.specs.History.{IsLegal}
 use Rattle.call_model.specs.Upgrades.{TargetSet, Start, Rollout, scenario_of, named_version, names_apart}
 use Rattle.call_model.specs.Upgrades.Start.{Empty, Holding}
 use Rattle.call_laws.specs.Meanings.{Numbered}
-use Rattle.upgrade_laws.specs.Premises.{IsRegistry, NamesApart, StartsWell, AllBegin, IsRollout}
+use Rattle.upgrade_laws.specs.Premises.{IsRegistry, product_names, HasProductNames, StartsWell, AllBegin, IsRollout}
 use Rattle.upgrade_laws.proofs.Claims.{legal}
-use Rattle.call_rows.proofs.Example.{words, names, registry, set_of, default_space, create, update, get, client, plain_doc}
+use Rattle.call_rows.proofs.Example.{words as plain_words}
+use Rattle.call_rows.proofs.Example.{version, registry, set_of, default_space, create, update, get, client, plain_doc}
 
 abbrev dashboard : Text
 dashboard = codes "dashboard"
@@ -42,6 +46,18 @@ sets = old ∷ new ∷ newest ∷ []
 abbrev set_at : ℕ → TargetSet ℕ
 set_at i = if i == 1 then newest else new
 
+-- the words of the worked calls, with the product's aliases of versions
+abbrev words : Words (Keyed Text) ℕ ℕ
+words = record {
+  transforms = plain_words.transforms;
+  merge = plain_words.merge;
+  text_at = plain_words.text_at;
+  token_number = plain_words.token_number;
+  version_alias = version_alias;
+  read_filter = plain_words.read_filter;
+  holds = plain_words.holds;
+}
+
 abbrev writer : TargetSet ℕ → Script (Keyed Text) ℕ
 writer s = client s.registry (create default_space dashboard (codes "x") [] ∷ update dashboard (codes "x") ((codes "n", codes "1") ∷ []) None ∷ get dashboard (codes "x") ∷ [])
 
@@ -52,7 +68,7 @@ three_rows = record {
 }
 
 abbrev rollout : Start (Keyed Text) ℕ → Rollout (Keyed Text) ℕ ℕ
-rollout start = record { words = words; names = names; sets = sets; set_of = set_at; start = start; instances = 3; scripts = writer old ∷ writer new ∷ writer newest ∷ [] }
+rollout start = record { words = words; names = product_names; sets = sets; set_of = set_at; start = start; instances = 3; scripts = writer old ∷ writer new ∷ writer newest ∷ [] }
 
 -- something holds of each set
 each_set : (P : TargetSet ℕ → Type 0) → P old → P new → P newest → (s : TargetSet ℕ) → Has s sets → P s
@@ -62,40 +78,26 @@ each_set P a b c s h = elim h [
   | inr k ↦ elim k [ inl e ↦ subst P (sym e) b | inr l ↦ elim l [ inl e ↦ subst P (sym e) c | inr m ↦ absurd m ] ]
 ]
 
-abbrev Apart : TargetSet ℕ → TargetSet ℕ → Type 0
-Apart s t = (s ≡ t) ⊎ ((words.version_alias s.registry.version ≢ words.version_alias t.registry.version) × (names.target s.registry.version ≢ names.target t.registry.version) × (names.temp s.registry.version ≢ names.temp t.registry.version))
+-- one set for each version
+one_each : (s t : TargetSet ℕ) → Has s sets → Has t sets → s.registry.version ≡ t.registry.version → s ≡ t
+one_each s t h k = each_set (λ x. (y : TargetSet ℕ) → Has y sets → x.registry.version ≡ y.registry.version → x ≡ y)
+    (each_set (λ y. old.registry.version ≡ y.registry.version → old ≡ y) (λ e. refl) (other old new (λ e. cc)) (other old newest (λ e. cc)))
+    (each_set (λ y. new.registry.version ≡ y.registry.version → new ≡ y) (other new old (λ e. cc)) (λ e. refl) (other new newest (λ e. cc)))
+    (each_set (λ y. newest.registry.version ≡ y.registry.version → newest ≡ y) (other newest old (λ e. cc)) (other newest new (λ e. cc)) (λ e. refl)) s h t k
+  where
+    other : (x y : TargetSet ℕ) → x.registry.version.minor ≢ y.registry.version.minor → x.registry.version ≡ y.registry.version → x ≡ y
+    other x y n e = absurd (n (ap (λ (v : Ver). v.minor) e))
 
-apart_by : (s t : TargetSet ℕ) → same (words.version_alias s.registry.version) (words.version_alias t.registry.version) ≡ false → same (names.target s.registry.version) (names.target t.registry.version) ≡ false → same (names.temp s.registry.version) (names.temp t.registry.version) ≡ false → Apart s t
-apart_by s t a b c = inr (apart_from_false (words.version_alias s.registry.version) (words.version_alias t.registry.version) a, apart_from_false (names.target s.registry.version) (names.target t.registry.version) b, apart_from_false (names.temp s.registry.version) (names.temp t.registry.version) c)
-
--- two names, by a test
-two : (f g : TargetSet ℕ → Text) (s : TargetSet ℕ) → same (f s) (g old) ≡ false → same (f s) (g new) ≡ false → same (f s) (g newest) ≡ false → (t : TargetSet ℕ) → Has t sets → f s ≢ g t
-two f g s a b c = each_set (λ t. f s ≢ g t) (apart_from_false (f s) (g old) a) (apart_from_false (f s) (g new) b) (apart_from_false (f s) (g newest) c)
-
-abbrev alias_of : TargetSet ℕ → Text
-alias_of s = words.version_alias s.registry.version
-
-abbrev target_of : TargetSet ℕ → Text
-target_of s = names.target s.registry.version
-
-abbrev temp_of : TargetSet ℕ → Text
-temp_of s = names.temp s.registry.version
-
-names_are_apart : NamesApart words names sets
-unfolding same
-names_are_apart = record {
-  current_alias = each_set (λ s. names.current ≢ alias_of s) (apart_from_false names.current (alias_of old) refl) (apart_from_false names.current (alias_of new) refl) (apart_from_false names.current (alias_of newest) refl);
-  current_target = each_set (λ s. names.current ≢ target_of s) (apart_from_false names.current (target_of old) refl) (apart_from_false names.current (target_of new) refl) (apart_from_false names.current (target_of newest) refl);
-  current_temp = each_set (λ s. names.current ≢ temp_of s) (apart_from_false names.current (temp_of old) refl) (apart_from_false names.current (temp_of new) refl) (apart_from_false names.current (temp_of newest) refl);
-  alias_target = λ s t h k. each_set (λ x. (y : TargetSet ℕ) → Has y sets → alias_of x ≢ target_of y) (two alias_of target_of old refl refl refl) (two alias_of target_of new refl refl refl) (two alias_of target_of newest refl refl refl) s h t k;
-  alias_temp = λ s t h k. each_set (λ x. (y : TargetSet ℕ) → Has y sets → alias_of x ≢ temp_of y) (two alias_of temp_of old refl refl refl) (two alias_of temp_of new refl refl refl) (two alias_of temp_of newest refl refl refl) s h t k;
-  target_temp = λ s t h k. each_set (λ x. (y : TargetSet ℕ) → Has y sets → target_of x ≢ temp_of y) (two target_of temp_of old refl refl refl) (two target_of temp_of new refl refl refl) (two target_of temp_of newest refl refl refl) s h t k;
-  one_each = λ s t h k. each_set (λ x. (y : TargetSet ℕ) → Has y sets → Apart x y)
-      (each_set (Apart old) (inl refl) (apart_by old new refl refl refl) (apart_by old newest refl refl refl))
-      (each_set (Apart new) (apart_by new old refl refl refl) (inl refl) (apart_by new newest refl refl refl))
-      (each_set (Apart newest) (apart_by newest old refl refl refl) (apart_by newest new refl refl refl) (inl refl)) s h t k;
-  version_named = each_set (λ s. names.version_in (target_of s) ≡ Some s.registry.version) refl refl refl;
+named : HasProductNames words product_names sets
+named = record {
+  product = refl;
+  alias = λ v. refl;
+  bounded = each_set (λ s. IsVer s.registry.version) (small 11 (omega arith)) (small 12 (omega arith)) (small 13 (omega arith));
+  one_each = one_each;
 }
+  where
+    small : (minor : ℕ) → minor < 2 ^ 64 → IsVer (version minor)
+    small minor lt = (omega arith, lt, omega arith)
 
 set_is_in : (i : ℕ) → Has (set_at i) sets
 unfolding Has
@@ -116,7 +118,7 @@ set_isnt_old i = by (i == 1)
 holds_of : (start : Start (Keyed Text) ℕ) → StartsWell sets set_at start → IsRollout (rollout start)
 unfolding Has AllBegin names_apart lists same
 holds_of start well = record {
-  names = names_are_apart;
+  names = named;
   registries = each_set (λ s. IsRegistry s.registry) refl refl refl;
   batches = each_set (λ s. 0 < s.batch) (omega arith) (omega arith) (omega arith);
   runs = set_is_in;
@@ -151,7 +153,7 @@ over_nothing = holds_of Empty tt
 abbrev schedule : List Event
 schedule = Event.Start 1 ∷ Event.Start 2 ∷ Step 1 ∷ Event.Client 1 ∷ Step 2 ∷ Step 1 ∷ Event.Client 1 ∷ Step 2 ∷ Step 2 ∷ Event.Client 1 ∷ Step 1 ∷ Event.Client 2 ∷ []
 
-schedule_is_legal : (start : Start (Keyed Text) ℕ) → StartsWell sets set_at start → IsLegal words (named_version names) (scenario_of (rollout start)) (world_after (scenario_of (rollout start)) schedule).journal
+schedule_is_legal : (start : Start (Keyed Text) ℕ) → StartsWell sets set_at start → IsLegal words (named_version product_names) (scenario_of (rollout start)) (world_after (scenario_of (rollout start)) schedule).journal
 schedule_is_legal start well =
     legal (rollout start) (holds_of start well) (world_after (scenario_of (rollout start)) schedule).journal
     (worlds_conform (scenario_of (rollout start)) schedule)

@@ -24,7 +24,7 @@ use Rattle.race_facts.proofs.Switching.{request_served}
 use Rattle.race_bound.proofs.Costing.{Cost, Open, costs, cost_later, Within, cost_bound, cost_init}
 
 module _ {D Q C : Type 0} (race : Race D Q C) (cur : Text) (In : Settings D Q → Type 0) (Fresh : Settings D Q → Text → D → Type 0) (Empty : Type 0) (Sound : C → Type 0) (laws : RaceLaws race cur In Fresh Sound)
-    (pages : Rows D → ℕ) (paged : (i : ℕ) → Paged race.select (race.settings i) pages) where
+    (pages : ℕ → Rows D → ℕ) (paged : (i : ℕ) → Paged race.select (race.settings i) (pages i)) where
   abbrev s : ℕ → Settings D Q
   s i = race.settings i
 
@@ -41,7 +41,7 @@ module _ {D Q C : Type 0} (race : Race D Q C) (cur : Text) (In : Settings D Q �
   Free i q state = FreeOf race.select (race.settings i) q state
 
   abbrev pub Costs : ℕ → Store D → ℕ → State D → Type 0
-  Costs i st k state = Cost race cur In Fresh Empty Sound laws pages (race.settings i) (laws.runs i) (laws.not_outdated i) (paged i) st k state
+  Costs i st k state = Cost race cur In Fresh Empty Sound laws (pages i) (race.settings i) (laws.runs i) (laws.not_outdated i) (paged i) st k state
 
   abbrev HoldsTo : ℕ → Owner → Store D → ℕ × ℕ → State D → Option (Request D Q) → Type 0
   HoldsTo i o st a state None = Unit {0}
@@ -176,7 +176,7 @@ module _ {D Q C : Type 0} (race : Race D Q C) (cur : Text) (In : Settings D Q �
   unfolding Every
   kept_asked o o' st i past past' ask g free a b = (asked_kept o o' st i past past' ask ask g free b, every_more (AskedOk o st i past) (AskedOk o' (serve race.select st ask).0 i past') past.asked (λ q. asked_kept o o' st i past past' ask q g free) a)
 
-  open_of : (i : ℕ) (o : Owner) (st : Store D) (a : ℕ × ℕ) (state : State D) → HeldAt i o st a state → Open race cur In Fresh Empty Sound laws pages (race.settings i) (laws.runs i) (laws.not_outdated i) (paged i) st state
+  open_of : (i : ℕ) (o : Owner) (st : Store D) (a : ℕ × ℕ) (state : State D) → HeldAt i o st a state → Open race cur In Fresh Empty Sound laws (pages i) (race.settings i) (laws.runs i) (laws.not_outdated i) (paged i) st state
   open_of i o st a (ReindexRead n p after pass) h = h.1
   open_of i o st a (OutdatedRead finish p after) h = h.1
   open_of i o st a _ h = tt
@@ -201,7 +201,7 @@ module _ {D Q C : Type 0} (race : Race D Q C) (cur : Text) (In : Settings D Q �
       by false e = refl
 
   costs_later : (i : ℕ) (st st' : Store D) → Later cur In Fresh Empty st st' → (k : ℕ) (state : State D) → Costs i st k state → Costs i st' k state
-  costs_later i st st' later k state c = cost_later race cur In Fresh Empty Sound laws pages (race.settings i) (laws.runs i) (laws.not_outdated i) (paged i) st st' later k state c
+  costs_later i st st' later k state c = cost_later race cur In Fresh Empty Sound laws (pages i) (race.settings i) (laws.runs i) (laws.not_outdated i) (paged i) st st' later k state c
 
   -- the instance of the entry
   own_owned : (o : Owner) (st : Store D) (i : ℕ) (how : How) (past : Past D Q) (tag : ℕ) (ask : Request D Q) → Ok st → PastFacts race cur In Fresh Empty Sound st i past → Later cur In Fresh Empty st (serve race.select st ask).0 → PastOwned o st i past → MayInstance (s i) how (Some past) tag ask
@@ -243,7 +243,7 @@ module _ {D Q C : Type 0} (race : Race D Q C) (cur : Text) (In : Settings D Q �
 
       costs_by : (g : ℕ) (b : Bool) → (g == tag) ≡ b → Costs i (serve race.select st ask).0 (if b then heard_of tag past.runs + 1 else heard_of g past.runs) (if b then moved (s i) (state_of tag past.runs) (serve race.select st ask).1 else state_of g past.runs)
       costs_by g true e = costs_later i st (serve race.select st ask).0 later (heard_of tag past.runs + 1) (moved (s i) (state_of tag past.runs) (serve race.select st ask).1)
-          (costs race cur In Fresh Empty Sound laws pages (race.settings i) (laws.runs i) (laws.not_outdated i) (paged i) st (heard_of tag past.runs) (state_of tag past.runs) ask ok phase_ok (open_of i o st (i, tag) (state_of tag past.runs) (a.starts tag)) (a.cost tag) m.1)
+          (costs race cur In Fresh Empty Sound laws (pages i) (race.settings i) (laws.runs i) (laws.not_outdated i) (paged i) st (heard_of tag past.runs) (state_of tag past.runs) ask ok phase_ok (open_of i o st (i, tag) (state_of tag past.runs) (a.starts tag)) (a.cost tag) m.1)
       costs_by g false e = costs_later i st (serve race.select st ask).0 later (heard_of g past.runs) (state_of g past.runs) (a.cost g)
 
       free_by : (p g : ℕ) → p < st.opened → Free i p (state_of g past.runs) → (b : Bool) → (g == tag) ≡ b → Free i p (if b then moved (s i) (state_of tag past.runs) (serve race.select st ask).1 else state_of g past.runs)
@@ -337,10 +337,10 @@ module _ {D Q C : Type 0} (race : Race D Q C) (cur : Text) (In : Settings D Q �
   -- each start is short, and looks at the store once
   pub all_short : (instances : ℕ) (st : Store D) (scripts : List C) (j : List (Entry D Q)) → TraceFacts race cur In Fresh Empty Sound (open_trace st instances scripts) → Conforms race (open_trace st instances scripts) j
       → (i : ℕ) (past : Past D Q) (g : ℕ) → nth (all_followed race (open_trace st instances scripts) j).pasts i ≡ Some past
-      → Within race cur In Fresh Empty Sound laws pages (race.settings i) (laws.runs i) (laws.not_outdated i) (paged i) (all_followed race (open_trace st instances scripts) j).store 14 (heard_of g past.runs) × (state_of g past.runs ≡ Init → heard_of g past.runs ≡ 0)
+      → Within race cur In Fresh Empty Sound laws (pages i) (race.settings i) (laws.runs i) (laws.not_outdated i) (paged i) (all_followed race (open_trace st instances scripts) j).store 14 (heard_of g past.runs) × (state_of g past.runs ≡ Init → heard_of g past.runs ≡ 0)
   all_short instances st scripts j b c i past g e =
       let r = owned_run (λ p. None) (open_trace st instances scripts) j b (none_owned instances st scripts) c in
       let own = r.1 i past e in (
-        cost_bound race cur In Fresh Empty Sound laws pages (race.settings i) (laws.runs i) (laws.not_outdated i) (paged i) (all_followed race (open_trace st instances scripts) j).store (heard_of g past.runs) (state_of g past.runs) (own.cost g),
-        cost_init race cur In Fresh Empty Sound laws pages (race.settings i) (laws.runs i) (laws.not_outdated i) (paged i) (all_followed race (open_trace st instances scripts) j).store (heard_of g past.runs) (state_of g past.runs) (own.cost g),
+        cost_bound race cur In Fresh Empty Sound laws (pages i) (race.settings i) (laws.runs i) (laws.not_outdated i) (paged i) (all_followed race (open_trace st instances scripts) j).store (heard_of g past.runs) (state_of g past.runs) (own.cost g),
+        cost_init race cur In Fresh Empty Sound laws (pages i) (race.settings i) (laws.runs i) (laws.not_outdated i) (paged i) (all_followed race (open_trace st instances scripts) j).store (heard_of g past.runs) (state_of g past.runs) (own.cost g),
       )

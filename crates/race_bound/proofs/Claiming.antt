@@ -30,8 +30,8 @@ module _ {D Q C : Type 0} (race : Race D Q C) (cur : Text) (sets : List (Setting
     abbrev starts : (instances : ℕ) (scripts : List C) → Every Sound scripts → TraceOk (open_trace st instances scripts)
     starts instances scripts sound = opens_trace race cur sets Fresh Sound laws Empty st ok instances scripts sound
 
-    short_of : (pages : Rows D → ℕ) (paged : (i : ℕ) → Paged race.select (race.settings i) pages) (i : ℕ) (x : Store D) (k : ℕ)
-        → Within race cur In Fresh Empty Sound laws pages (race.settings i) (laws.runs i) (laws.not_outdated i) (paged i) x 14 k → IsShort pages sets (race.settings i) x k
+    short_of : (pages : ℕ → Rows D → ℕ) (paged : (i : ℕ) → Paged race.select (race.settings i) (pages i)) (i : ℕ) (x : Store D) (k : ℕ)
+        → Within race cur In Fresh Empty Sound laws (pages i) (race.settings i) (laws.runs i) (laws.not_outdated i) (paged i) x 14 k → IsShort (pages i) sets (race.settings i) x k
     short_of pages paged i x k (inl few) = inl few
     short_of pages paged i x k (inr o) = inr (record {
       source = o.0;
@@ -41,10 +41,10 @@ module _ {D Q C : Type 0} (race : Race D Q C) (cur : Text) (sets : List (Setting
       index = o.1.blocked.index;
       there = o.1.blocked.there;
       blocked = o.1.blocked.blocked;
-      few = subst (λ (z : Table D). k ≤ 14 + 2 * pages z.rows) (sym o.1.blocked.table) o.1.few;
+      few = subst (λ (z : Table D). k ≤ 14 + 2 * pages i z.rows) (sym o.1.blocked.table) o.1.few;
     })
 
-    pub starts_short : (pages : Rows D → ℕ) (paged : (i : ℕ) → Paged race.select (race.settings i) pages) (instances : ℕ) (scripts : List C) (j : List (Entry D Q)) → Every Sound scripts → Conforms race (open_trace st instances scripts) j
+    pub starts_short : (pages : ℕ → Rows D → ℕ) (paged : (i : ℕ) → Paged race.select (race.settings i) (pages i)) (instances : ℕ) (scripts : List C) (j : List (Entry D Q)) → Every Sound scripts → Conforms race (open_trace st instances scripts) j
         → AllShort race pages sets (all_followed race (open_trace st instances scripts) j)
     starts_short pages paged instances scripts j sound c = record {
       short = λ i past g e. short_of pages paged i (all_followed race (open_trace st instances scripts) j).store (heard_of g past.runs) (all_short race cur In Fresh Empty Sound laws pages paged instances st scripts j (starts instances scripts sound) c i past g e).0;

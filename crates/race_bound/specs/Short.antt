@@ -23,7 +23,7 @@ pub record ShortBy {D Q : Type 0} (pages : Rows D → ℕ) (sets : List (Setting
 abbrev pub IsShort : {D Q : Type 0} → (Rows D → ℕ) → List (Settings D Q) → Settings D Q → Store D → ℕ → Type 0
 IsShort pages sets v st k = (k ≤ 14) ⊎ ShortBy pages sets v st k
 
--- every start is short, and looks at the store once
-pub record AllShort {D Q C : Type 0} (race : Race D Q C) (pages : Rows D → ℕ) (sets : List (Settings D Q)) (t : Trace D Q C) : Type 0 where
-  pub short : (i : ℕ) (past : Past D Q) (tag : ℕ) → nth t.pasts i ≡ Some past → IsShort pages sets (race.settings i) t.store (heard_of tag past.runs)
+-- every start is short, by the pages of its instance, and looks at the store once
+pub record AllShort {D Q C : Type 0} (race : Race D Q C) (pages : (instance : ℕ) → Rows D → ℕ) (sets : List (Settings D Q)) (t : Trace D Q C) : Type 0 where
+  pub short : (i : ℕ) (past : Past D Q) (tag : ℕ) → nth t.pasts i ≡ Some past → IsShort (pages i) sets (race.settings i) t.store (heard_of tag past.runs)
   pub looks_once : (i : ℕ) (past : Past D Q) (tag : ℕ) → nth t.pasts i ≡ Some past → state_of tag past.runs ≡ Init → heard_of tag past.runs ≡ 0

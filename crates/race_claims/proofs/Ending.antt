@@ -33,7 +33,7 @@ use Rattle.race_claims.proofs.Beginning.{fresh_first, standing_first, below_firs
 use Rattle.race_claims.proofs.Going.{OnlyFor, for_front, for_back, Stand, looks_first, own_request, first_step, along}
 
 module _ {D Q C : Type 0} (race : Race D Q C) (cur : Text) (In : Settings D Q → Type 0) (Fresh_docs : Settings D Q → Text → D → Type 0) (Empty : Type 0) (Sound : C → Type 0) (laws : RaceLaws race cur In Fresh_docs Sound)
-    (version_in : Text → Option Text) (knows : (u : Settings D Q) → In u → (version : Text) × (version_in u.target ≡ Some version)) (pages : Rows D → ℕ) (paged : (j : ℕ) → Paged race.select (race.settings j) pages) (i tag : ℕ) (find : FindsUnknown race.select (race.settings i)) where
+    (version_in : Text → Option Text) (knows : (u : Settings D Q) → In u → (version : Text) × (version_in u.target ≡ Some version)) (pages : ℕ → Rows D → ℕ) (paged : (j : ℕ) → Paged race.select (race.settings j) (pages j)) (i tag : ℕ) (find : FindsUnknown race.select (race.settings i)) where
   abbrev v : Settings D Q
   v = race.settings i
 
@@ -87,7 +87,7 @@ module _ {D Q C : Type 0} (race : Race D Q C) (cur : Text) (In : Settings D Q �
     later = all_followed race t (first ∷ after)
 
     none_heard : heard_of tag start.runs ≡ 0
-    none_heard = cost_init race cur In Fresh_docs Empty Sound laws pages v is_in (laws.not_outdated i) (paged i) t.store (heard_of tag start.runs) (state_of tag start.runs) ((owned i start there).cost tag) init
+    none_heard = cost_init race cur In Fresh_docs Empty Sound laws (pages i) v is_in (laws.not_outdated i) (paged i) t.store (heard_of tag start.runs) (state_of tag start.runs) ((owned i start there).cost tag) init
 
     at_last : at cur t.store.aliases ≡ last_index (last_generation gs)
     at_last = sym (on_last race cur In Fresh_docs Empty Sound laws version_in gs t.store shows.last)
@@ -111,7 +111,7 @@ module _ {D Q C : Type 0} (race : Race D Q C) (cur : Text) (In : Settings D Q �
         k : ℕ
         k = heard_of tag past.runs
 
-        by : (x : State D) (q : Option (Request D Q)) → request v x ≡ q → GoodAt w later.store k x → Cost race cur In Fresh_docs Empty Sound laws pages v is_in (laws.not_outdated i) (paged i) later.store k x → At later.store x
+        by : (x : State D) (q : Option (Request D Q)) → request v x ≡ q → GoodAt w later.store k x → Cost race cur In Fresh_docs Empty Sound laws (pages i) v is_in (laws.not_outdated i) (paged i) later.store k x → At later.store x
             → ((x ≡ Ended (End.Done v.target)) × Within k) ⊎ ((ask : Request D Q) × (request v x ≡ Some ask) × Within (k + 1))
         by (Ended (End.Done target)) q r g cost at_end = inl (ap (λ n. Ended (End.Done n)) at_end.0, within k g)
         by (Ended (Fatal cause)) q r g cost at_end = absurd g
@@ -129,9 +129,9 @@ module _ {D Q C : Type 0} (race : Race D Q C) (cur : Text) (In : Settings D Q �
     at_own_fresh x [] = tt
     at_own_fresh x (e ∷ es) = (λ h. tt, at_own_fresh (followed race x e) es)
 
-    within_pages : (s : Text) (k : ℕ) → BoundAt (Below s) later.store 14 k → IsWithinPages pages later.store s k
+    within_pages : (s : Text) (k : ℕ) → BoundAt (Below s) later.store 14 k → IsWithinPages (pages i) later.store s k
     within_pages s k (inl le) = inl le
-    within_pages s k (inr o) = inr (o.blocked.index, o.blocked.there, o.blocked.blocked, subst (λ (z : Table D). k ≤ 14 + 2 * pages z.rows) (sym o.blocked.table) o.few)
+    within_pages s k (inr o) = inr (o.blocked.index, o.blocked.there, o.blocked.blocked, subst (λ (z : Table D). k ≤ 14 + 2 * pages i z.rows) (sym o.blocked.table) o.few)
 
     first_looks : LooksAtNames first.request
     unfolding Conforms MayCome
@@ -144,18 +144,18 @@ module _ {D Q C : Type 0} (race : Race D Q C) (cur : Text) (In : Settings D Q �
         let r = runs_from Standing tt tt tt (at_own_all t (first ∷ after)) (subst (GoodAt Standing t.store 1) (sym (standing_first race cur In Fresh_docs Empty Sound laws v is_in t.store facts.store e)) tt) in
         ends Standing r.0 r.1 r.2 r.3 past f Within within
 
-    pub goes_well : IsUnhindered race i tag v (facts_from cur version_in f (first ∷ after)) t (first ∷ after) (at cur t.store.aliases) → (past : Past D Q) → nth later.pasts i ≡ Some past → GoesWell pages v later.store (at cur t.store.aliases) (heard_of tag past.runs) (state_of tag past.runs)
+    pub goes_well : IsUnhindered race i tag v (facts_from cur version_in f (first ∷ after)) t (first ∷ after) (at cur t.store.aliases) → (past : Past D Q) → nth later.pasts i ≡ Some past → GoesWell (pages i) v later.store (at cur t.store.aliases) (heard_of tag past.runs) (state_of tag past.runs)
     unfolding AtOwn
     goes_well u past there_later = by (at cur t.store.aliases) refl u
       where
-        by : (o : Option Text) → at cur t.store.aliases ≡ o → IsUnhindered race i tag v (facts_from cur version_in f (first ∷ after)) t (first ∷ after) o → GoesWell pages v later.store o (heard_of tag past.runs) (state_of tag past.runs)
+        by : (o : Option Text) → at cur t.store.aliases ≡ o → IsUnhindered race i tag v (facts_from cur version_in f (first ∷ after)) t (first ∷ after) o → GoesWell (pages i) v later.store o (heard_of tag past.runs) (state_of tag past.runs)
         by None e only =
             let r = runs_from Fresh tt (inl e) only (at_own_fresh t (first ∷ after)) (subst (GoodAt Fresh t.store 1) (sym (fresh_first race cur In Fresh_docs Empty Sound laws v is_in t.store facts.store e)) tt) in
-            ends Fresh r.0 r.1 r.2 r.3 past there_later (IsWithin pages v later.store None) (λ k le. le)
-        by (Some s) e (inl is) = standing (e ∙ ap (λ z. Some z) is) past there_later (IsWithin pages v later.store (Some s)) (λ k le. inl (is, le))
+            ends Fresh r.0 r.1 r.2 r.3 past there_later (IsWithin (pages i) v later.store None) (λ k le. le)
+        by (Some s) e (inl is) = standing (e ∙ ap (λ z. Some z) is) past there_later (IsWithin (pages i) v later.store (Some s)) (λ k le. inl (is, le))
         by (Some s) e (inr a) = elim (same_is s v.target) [
-          | inl y ↦ standing (e ∙ ap (λ z. Some z) y.1) past there_later (IsWithin pages v later.store (Some s)) (λ k le. inl (y.1, le))
+          | inl y ↦ standing (e ∙ ap (λ z. Some z) y.1) past there_later (IsWithin (pages i) v later.store (Some s)) (λ k le. inl (y.1, le))
           | inr x ↦ (let other : v.is_same s ≡ false = not_same race cur In Fresh_docs Empty Sound laws v is_in t.store s facts.store e x.1 in
               let r = runs_from (Below s) (a.0, other) (inl e) a.1 a.2 (subst (GoodAt (Below s) t.store 1) (sym (below_first race cur In Fresh_docs Empty Sound laws v is_in t.store s facts.store e x.1 a.0 other ((a.2.0 own).own_source first_looks))) refl) in
-              ends (Below s) r.0 r.1 r.2 r.3 past there_later (IsWithin pages v later.store (Some s)) (λ k b. inr (within_pages s k b)))
+              ends (Below s) r.0 r.1 r.2 r.3 past there_later (IsWithin (pages i) v later.store (Some s)) (λ k b. inr (within_pages s k b)))
         ]

@@ -35,7 +35,7 @@ use Rattle.race_claims.proofs.Ways.Way.{Fresh, Standing, Below}
 use Rattle.race_claims.proofs.Unhindered.{Good, Named, Clear, WayOk, good_later, own_good}
 
 module _ {D Q C : Type 0} (race : Race D Q C) (cur : Text) (In : Settings D Q → Type 0) (Fresh_docs : Settings D Q → Text → D → Type 0) (Empty : Type 0) (Sound : C → Type 0) (laws : RaceLaws race cur In Fresh_docs Sound)
-    (version_in : Text → Option Text) (knows : (u : Settings D Q) → In u → (version : Text) × (version_in u.target ≡ Some version)) (pages : Rows D → ℕ) (paged : (j : ℕ) → Paged race.select (race.settings j) pages) (i tag : ℕ) (find : FindsUnknown race.select (race.settings i)) where
+    (version_in : Text → Option Text) (knows : (u : Settings D Q) → In u → (version : Text) × (version_in u.target ≡ Some version)) (pages : ℕ → Rows D → ℕ) (paged : (j : ℕ) → Paged race.select (race.settings j) (pages j)) (i tag : ℕ) (find : FindsUnknown race.select (race.settings i)) where
   abbrev v : Settings D Q
   v = race.settings i
 
@@ -194,9 +194,9 @@ module _ {D Q C : Type 0} (race : Race D Q C) (cur : Text) (In : Settings D Q �
           (good_later race cur In Fresh_docs Empty Sound laws version_in knows pages paged i tag find w t.store st' (heard_of tag past.runs) (state_of tag past.runs) later (s.good past e)))
       by past e (Moves a h g state heard) =
           let own_cost = (owned i next there).cost tag in
-          let cost' = subst (λ x. Cost race cur In Fresh_docs Empty Sound laws pages v is_in (laws.not_outdated i) (paged i) st' (heard_of tag past.runs + 1) x) state
-          (subst (λ k. Cost race cur In Fresh_docs Empty Sound laws pages v is_in (laws.not_outdated i) (paged i) st' k (state_of tag next.runs)) heard
-          (subst (λ x. Cost race cur In Fresh_docs Empty Sound laws pages v is_in (laws.not_outdated i) (paged i) x (heard_of tag next.runs) (state_of tag next.runs)) is own_cost)) in
+          let cost' = subst (λ x. Cost race cur In Fresh_docs Empty Sound laws (pages i) v is_in (laws.not_outdated i) (paged i) st' (heard_of tag past.runs + 1) x) state
+          (subst (λ k. Cost race cur In Fresh_docs Empty Sound laws (pages i) v is_in (laws.not_outdated i) (paged i) st' k (state_of tag next.runs)) heard
+          (subst (λ x. Cost race cur In Fresh_docs Empty Sound laws (pages i) v is_in (laws.not_outdated i) (paged i) x (heard_of tag next.runs) (state_of tag next.runs)) is own_cost)) in
           subst (λ k. GoodAt w st' k (state_of tag next.runs)) (sym heard) (subst (GoodAt w st' (heard_of tag past.runs + 1)) (sym state)
           (own_good race cur In Fresh_docs Empty Sound laws version_in knows pages paged i tag find w t.store (heard_of tag past.runs) (state_of tag past.runs) ask s.facts.store
           (every_state (At t.store) tag past.runs tt (place_at (PastFacts race cur In Fresh_docs Empty Sound t.store) t.pasts i past s.facts.pasts e).runs) ok (own_request t actor how own ask past a h g e m)

@@ -10,4 +10,5 @@ pub mod Ending
 pub mod OneVersion
 pub mod OneClaim
 pub mod Unfailing
+pub mod Scenarios
 pub mod Laws

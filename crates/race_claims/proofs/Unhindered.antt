@@ -26,7 +26,7 @@ use Rattle.race_claims.proofs.Ways.{Way, IsFresh, IsMoving, OnSource, OnFinish, 
 use Rattle.race_claims.proofs.Ways.Way.{Fresh, Standing, Below}
 
 module _ {D Q C : Type 0} (race : Race D Q C) (cur : Text) (In : Settings D Q → Type 0) (Fresh_docs : Settings D Q → Text → D → Type 0) (Empty : Type 0) (Sound : C → Type 0) (laws : RaceLaws race cur In Fresh_docs Sound)
-    (version_in : Text → Option Text) (knows : (u : Settings D Q) → In u → (version : Text) × (version_in u.target ≡ Some version)) (pages : Rows D → ℕ) (paged : (j : ℕ) → Paged race.select (race.settings j) pages) (i tag : ℕ) (find : FindsUnknown race.select (race.settings i)) where
+    (version_in : Text → Option Text) (knows : (u : Settings D Q) → In u → (version : Text) × (version_in u.target ≡ Some version)) (pages : ℕ → Rows D → ℕ) (paged : (j : ℕ) → Paged race.select (race.settings j) (pages j)) (i tag : ℕ) (find : FindsUnknown race.select (race.settings i)) where
   abbrev v : Settings D Q
   v = race.settings i
 
@@ -43,10 +43,10 @@ module _ {D Q C : Type 0} (race : Race D Q C) (cur : Text) (In : Settings D Q �
   At st state = StateOk cur In Fresh_docs Empty v st state
 
   abbrev OfSource : Store D → Text → ℕ → ℕ → Type 0
-  OfSource st n c k = Of race cur In Fresh_docs Empty Sound laws pages v is_in (laws.not_outdated i) (paged i) st n c k
+  OfSource st n c k = Of race cur In Fresh_docs Empty Sound laws (pages i) v is_in (laws.not_outdated i) (paged i) st n c k
 
   abbrev CostAt : Store D → ℕ → State D → Type 0
-  CostAt st k state = Cost race cur In Fresh_docs Empty Sound laws pages v is_in (laws.not_outdated i) (paged i) st k state
+  CostAt st k state = Cost race cur In Fresh_docs Empty Sound laws (pages i) v is_in (laws.not_outdated i) (paged i) st k state
 
   abbrev Lasts : Store D → Store D → Type 0
   Lasts st st' = Later cur In Fresh_docs Empty st st'
@@ -79,13 +79,13 @@ module _ {D Q C : Type 0} (race : Race D Q C) (cur : Text) (In : Settings D Q �
   bound_later Fresh st st' c k later b = b
   bound_later Standing st st' c k later b = b
   bound_later (Below s) st st' c k later (inl le) = inl le
-  bound_later (Below s) st st' c k later (inr o) = inr (of_later race cur In Fresh_docs Empty Sound laws pages v is_in (laws.not_outdated i) (paged i) st st' later s c k o)
+  bound_later (Below s) st st' c k later (inr o) = inr (of_later race cur In Fresh_docs Empty Sound laws (pages i) v is_in (laws.not_outdated i) (paged i) st st' later s c k o)
 
   pub bound_more : (w : Way) (st : Store D) (c k : ℕ) → Bound w st c k → Bound w st (c + 1) (k + 1)
   bound_more Fresh st c k le = omega arith
   bound_more Standing st c k le = omega arith
   bound_more (Below s) st c k (inl le) = inl (omega arith)
-  bound_more (Below s) st c k (inr o) = inr (of_more race cur In Fresh_docs Empty Sound laws pages v is_in (laws.not_outdated i) (paged i) st s c (c + 1) k o (omega arith))
+  bound_more (Below s) st c k (inr o) = inr (of_more race cur In Fresh_docs Empty Sound laws (pages i) v is_in (laws.not_outdated i) (paged i) st s c (c + 1) k o (omega arith))
 
   -- how a start of this way stands
   abbrev pub Good : Way → Store D → ℕ → State D → Type 0

@@ -30,22 +30,22 @@ pub fn causes_are_shown<D, Q, C>()
 {}
 
 /// A start that nothing stands against ends as done with its version's one target, within fourteen
-/// replies and two for each page of its blocked source: along every journal it is done, or has a further
+/// replies and two for each page, of its own instance's, of its blocked source: along every journal it is done, or has a further
 /// request within that bound. Nothing stands against it where the current alias named its version's
 /// target at its first entry; or named an index of a version not above, or nothing, and since then no
 /// migration or install of another version was done, and at each of its own entries the indices of its
 /// names have that source, no unknown, corrupt or newer document stands in it, and it is clean once it
 /// is blocked.
 pub fn unhindered_starts_end_as_done<D, Q, C>()
-    ensures { (scenario : Scenario D Q C) (is_fresh : Settings D Q → Text → D → Bool) (is_sound : C → Bool) (version_in : Text → Option Text) (pages : Rows D → ℕ)
+    ensures { (scenario : Scenario D Q C) (is_fresh : Settings D Q → Text → D → Bool) (is_sound : C → Bool) (version_in : Text → Option Text) (pages : ℕ → Rows D → ℕ)
         (before after : List (Entry D Q)) (first : Entry D Q) (i tag : ℕ) (start past : Past D Q) →
         IsFair scenario is_fresh is_sound → ((v : Settings D Q) → Has v scenario.sets → (version : Text) × (version_in v.target ≡ Some version)) →
-        ((j : ℕ) → Paged scenario.race.select (scenario.race.settings j) pages) → FindsUnknown scenario.race.select (scenario.race.settings i) →
+        ((j : ℕ) → Paged scenario.race.select (scenario.race.settings j) (pages j)) → FindsUnknown scenario.race.select (scenario.race.settings i) →
         IsJournal scenario (before ++ first ∷ after) →
         IsOwn i tag first → nth (trace_after scenario before).pasts i ≡ Some start → state_of tag start.runs ≡ Init →
         IsUnhindered scenario.race i tag (scenario.race.settings i) (facts_since scenario version_in before (first ∷ after)) (trace_after scenario before) (first ∷ after) (at scenario.current (trace_after scenario before).store.aliases) →
         nth (trace_after scenario (before ++ first ∷ after)).pasts i ≡ Some past →
-        GoesWell pages (scenario.race.settings i) (trace_after scenario (before ++ first ∷ after)).store (at scenario.current (trace_after scenario before).store.aliases) (heard_of tag past.runs) (state_of tag past.runs) }
+        GoesWell (pages i) (scenario.race.settings i) (trace_after scenario (before ++ first ∷ after)).store (at scenario.current (trace_after scenario before).store.aliases) (heard_of tag past.runs) (state_of tag past.runs) }
 {}
 
 /// Where every instance is of one version, above the opening's, a start fails by documents alone: it
@@ -69,13 +69,13 @@ pub fn worlds_of_one_version_fail_by_documents<D, Q, C>()
 /// The same of a world, for the start of an instance none of whose sends failed: its machine is done
 /// with its version's one target, or has a further request within the bound.
 pub fn unhindered_machines_end_as_done<D, Q, C>()
-    ensures { (scenario : Scenario D Q C) (is_fresh : Settings D Q → Text → D → Bool) (is_sound : C → Bool) (version_in : Text → Option Text) (pages : Rows D → ℕ)
+    ensures { (scenario : Scenario D Q C) (is_fresh : Settings D Q → Text → D → Bool) (is_sound : C → Bool) (version_in : Text → Option Text) (pages : ℕ → Rows D → ℕ)
         (events : List Event) (before after : List (Entry D Q)) (first : Entry D Q) (i : ℕ) (start : Past D Q) (node : Node D Q) (m : Machine D) →
         IsFair scenario is_fresh is_sound → ((v : Settings D Q) → Has v scenario.sets → (version : Text) × (version_in v.target ≡ Some version)) →
-        ((j : ℕ) → Paged scenario.race.select (scenario.race.settings j) pages) → FindsUnknown scenario.race.select (scenario.race.settings i) →
+        ((j : ℕ) → Paged scenario.race.select (scenario.race.settings j) (pages j)) → FindsUnknown scenario.race.select (scenario.race.settings i) →
         nth (world_after scenario events).nodes i ≡ Some node → node.machine ≡ Some m → (HasFailed node.starts node.sent → ⊥) →
         (world_after scenario events).journal ≡ before ++ first ∷ after →
         IsOwn i node.starts first → nth (trace_after scenario before).pasts i ≡ Some start → state_of node.starts start.runs ≡ Init →
         IsUnhindered scenario.race i node.starts (scenario.race.settings i) (facts_since scenario version_in before (first ∷ after)) (trace_after scenario before) (first ∷ after) (at scenario.current (trace_after scenario before).store.aliases) →
-        (heard : ℕ) × GoesWell pages (scenario.race.settings i) (world_after scenario events).store (at scenario.current (trace_after scenario before).store.aliases) heard m.state }
+        (heard : ℕ) × GoesWell (pages i) (scenario.race.settings i) (world_after scenario events).store (at scenario.current (trace_after scenario before).store.aliases) heard m.state }
 {}

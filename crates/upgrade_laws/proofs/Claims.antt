@@ -5,20 +5,21 @@ use Rattle.std.proofs.lemmas.List.{length-drop, take-append-drop}
 use Rattle.std.proofs.Math.Nat.{add-div_right, div-eq_of_lt, div-mul-le_self, zero-lt-suc}
 use Rattle.std.proofs.lemmas.Nat.{le-div}
 use mathlib.Core.Logic.◌⊎◌.{inl, inr}
-use Rattle.base_model.specs.Keyed.{Text, same}
-use Rattle.race_model.specs.Stores.{Rows}
-use Rattle.race_model.specs.Machines.{Cause, End, moved}
-use Rattle.race_model.specs.Machines.State.{Ended}
+use Rattle.base_model.specs.Keyed.{Text, same, at}
+use Rattle.race_model.specs.Stores.{Rows, empty_table}
+use Rattle.race_model.specs.Machines.{Settings, Cause, End, Machine, moved}
+use Rattle.race_model.specs.Machines.State.{Init, Ended}
 use Rattle.race_model.specs.Machines.End.{Fatal}
 use Rattle.race_model.specs.Generations.{Generation, Generations, of_alias, new_generation}
-use Rattle.race_model.specs.Worlds.{Entry, Event, nth}
+use Rattle.race_model.specs.Worlds.{Entry, Event, Node, nth}
 use Rattle.race_model.specs.Worlds.Actor.{Instance}
 use Rattle.race_model.specs.Worlds.How.{Heard}
-use Rattle.race_model.specs.Journals.{Has, Past, state_of}
+use Rattle.race_model.specs.Journals.{Has, Past, state_of, heard_of}
 use Rattle.race_model.specs.Sorted.{Each}
 use Rattle.race_model.specs.Premises.{IsOpening, Paged}
 use Rattle.race_model.specs.Runs.{IsRun}
-use Rattle.race_model.specs.Openings.{Scenario, IsEmptyOpening, opening_store, opening_generations, found_at_opening, IsJournal, world_after, trace_after, facts_of_journal}
+use Rattle.race_model.specs.Openings.{Scenario, IsEmptyOpening, opening_store, opening_generations, found_at_opening, IsJournal, world_after, trace_after, facts_of_journal, facts_since}
+use Rattle.race_model.specs.Openings.Opening.{NoGeneration}
 use Rattle.race_facts.specs.Raced.{Raced}
 use Rattle.race_facts.proofs.Opening.{opens_well}
 use Rattle.race_facts.proofs.Claiming.{worlds_raced}
@@ -28,21 +29,29 @@ use Rattle.race_history.proofs.Claiming.{journal_runs, done_told}
 use Rattle.race_bound.specs.Short.{AllShort}
 use Rattle.race_bound.proofs.Claiming.{starts_short}
 use Rattle.race_claims.specs.Shown.{IsShown}
-use Rattle.race_claims.proofs.Claiming.{causes_shown}
-use Rattle.document_model.specs.Documents.{Doc}
+use Rattle.race_claims.specs.OneVersion.{IsAbove, IsOneVersion, IsByDocuments}
+use Rattle.race_claims.specs.Unfailing.{HasFailed}
+use Rattle.race_claims.specs.Unhindered.{IsOwn, IsUnhindered, GoesWell}
+use Rattle.race_claims.proofs.Scenarios.{goes, machine_goes, fails_by_documents, machine_fails_by_documents}
+use Rattle.race_claims.proofs.Scenarios as scenario
+use Rattle.version_token.specs.declared.Ver.{Ver}
+use Rattle.document_model.specs.Documents.{ver_lt, Doc}
 use Rattle.query_model.specs.Queries.{Query, select}
 use Rattle.call_model.specs.Scripts.{Script}
 use Rattle.call_model.specs.History.{IsLegal, stood_before}
-use Rattle.call_model.specs.Upgrades.{TargetSet, settings_of, Start, Rollout, opening_of, scenario_of, named_version, text_of}
+use Rattle.call_model.specs.Upgrades.{is_above, is_that, TargetSet, settings_of, Start, Rollout, opening_of, scenario_of, named_version, text_of}
 use Rattle.call_model.specs.Upgrades.Start.{Empty, Holding}
 use Rattle.call_laws.specs.Meanings.{Numbered}
+use Rattle.call_effects.proofs.Versions.{lt_trans}
+use Rattle.call_effects.proofs.Fitting.{ver_self}
 use Rattle.call_history.proofs.Growing.{AllNumbered}
 use Rattle.call_history.proofs.Planned.{plans}
 use Rattle.call_history.proofs.Standing.{none_yet}
 use Rattle.call_history.proofs.Legality.{legal_run, all_begin}
-use Rattle.upgrade_laws.specs.Premises.{StartsWell, AllBegin, IsRollout, pages_by}
+use Rattle.upgrade_laws.specs.Premises.{StartsWell, AllBegin, IsRollout, StartsBelow, IsOfOneSet, pages_by}
+use Rattle.upgrade_laws.proofs.Checking.{finds_unknown}
 use Rattle.upgrade_laws.proofs.Selecting.{page_take}
-use Rattle.upgrade_laws.proofs.Rolling.{In, Fresh, Sound, in_is, laws, all_sound}
+use Rattle.upgrade_laws.proofs.Rolling.{names, In, Fresh, Sound, in_is, in_of, laws, all_sound}
 
 module _ {A O F : Type 0} (r : Rollout A O F) (is : IsRollout r) where
   abbrev s : Scenario (Doc A) (Query F) (Script A O)
@@ -86,7 +95,7 @@ module _ {A O F : Type 0} (r : Rollout A O F) (is : IsRollout r) where
       version_in (opening_generations s.opening) (found_at_opening s.opening) (well_shown s.race s.current s.sets (Fresh r is) (Sound r is) (laws r is) s.opening opens)
       (well_found s.race s.current s.sets (Fresh r is) (Sound r is) (laws r is) s.opening opens)
       s.instances s.scripts journal (all_sound r is r.scripts is.scripts) conforms i past tag target (r.names.text (r.set_of i).registry.version) here ended
-      (ap (text_of r.names.text) (is.names.version_named (r.set_of i) (is.runs i))) (none_of r.start is.start)
+      (ap (text_of r.names.text) ((names r is).version_named (r.set_of i) (is.runs i))) (none_of r.start is.start)
     where
       none_of : (o : Start A O) → StartsWell r.sets r.set_of o → of_alias (s.race.settings i).version (opening_generations (opening_of r.words r.names o)) ≡ None
       none_of Empty w = refl
@@ -98,9 +107,7 @@ module _ {A O F : Type 0} (r : Rollout A O F) (is : IsRollout r) where
 
   pub causes : (journal : List (Entry (Doc A) (Query F))) (e : Entry (Doc A) (Query F)) → IsJournal s (journal ++ e ∷ []) → (i : ℕ) (past : Past (Doc A) (Query F)) (cause : Cause) → e.actor ≡ Instance i → e.how ≡ Heard → nth (trace_after s journal).pasts i ≡ Some past
       → moved (s.race.settings i) (state_of e.tag past.runs) e.reply ≡ Ended (Fatal cause) → IsShown s.race.select s.current (s.race.settings i) (trace_after s journal).store (state_of e.tag past.runs) cause
-  causes journal e conforms =
-      causes_shown s.race s.current s.sets (Fresh r is) (Sound r is) (laws r is) (IsEmptyOpening s.opening) (opening_store s.current s.opening)
-      (opens_well s.race s.current s.sets (Fresh r is) (Sound r is) (laws r is) s.opening opens) s.instances s.scripts journal e (all_sound r is r.scripts is.scripts) conforms
+  causes journal e conforms = scenario.causes s (Fresh r is) (Sound r is) (laws r is) opens (all_sound r is r.scripts is.scripts) journal e conforms
 
   -- legal
 
@@ -131,16 +138,23 @@ module _ {A O F : Type 0} (r : Rollout A O F) (is : IsRollout r) where
   legal journal conforms =
       let run = is_run journal conforms in
       legal_run r.words s.race.settings s.sets r.scripts (opening_generations s.opening) version_in s.current (λ i. in_is r is r.sets (r.set_of i) (is.runs i))
-      (λ i. (r.names.text (r.set_of i).registry.version, ap (text_of r.names.text) (is.names.version_named (r.set_of i) (is.runs i))))
+      (λ i. (r.names.text (r.set_of i).registry.version, ap (text_of r.names.text) ((names r is).version_named (r.set_of i) (is.runs i))))
       (plans r.words s.race.settings (opening_generations s.opening) numbered)
       journal [] (found_at_opening s.opening) [] (opening_generations s.opening) run.0 (Rattle.race_model.specs.Openings.first_trace s) run.1 conforms
       (λ q l. level q) (none_yet s.race.settings (opening_generations s.opening)) refl
       (all_begin r.words s.race.settings s.sets r.scripts (opening_generations s.opening) version_in s.current (λ i. in_is r is r.sets (r.set_of i) (is.runs i))
-      (λ i. (r.names.text (r.set_of i).registry.version, ap (text_of r.names.text) (is.names.version_named (r.set_of i) (is.runs i))))
+      (λ i. (r.names.text (r.set_of i).registry.version, ap (text_of r.names.text) ((names r is).version_named (r.set_of i) (is.runs i))))
       (plans r.words s.race.settings (opening_generations s.opening) numbered) (begin_at r.scripts is.scripts))
     where
       level : (q : ℕ) → stood_before q (opening_generations s.opening) [] ≡ opening_generations s.opening
       level q = refl
+
+not_above : (v w : Ver) → ver_lt v w ≡ true → ver_lt w v ≡ false
+not_above v w e = by (ver_lt w v) refl
+  where
+    by : (b : Bool) → ver_lt w v ≡ b → ver_lt w v ≡ false
+    by false f = f
+    by true f = let x : ver_lt v v ≡ true = lt_trans v w v e f in let y : true ≡ false = sym x ∙ ver_self v in cc
 
 le_trans : {a b c : ℕ} → a ≤ b → b ≤ c → a ≤ c
 le_trans x y = omega arith
@@ -182,19 +196,79 @@ module _ (n : ℕ) where
       let h : pages_by (suc n) (drop k rest) ≡ (left + n) / suc n = pages_is (drop k rest) in
       inr (rw (h, g) f)
 
-module _ {A O F : Type 0} (r : Rollout A O F) (is : IsRollout r) (batch : ℕ) (some : 0 < batch) (least : (i : ℕ) → batch ≤ (r.set_of i).batch) where
-  paged : (i : ℕ) → Paged (select r.words.holds) (settings_of r.words r.names (r.set_of i)) (pages_by batch)
-  paged i = by batch some (r.set_of i).batch (least i)
+module _ {A O F : Type 0} (r : Rollout A O F) (is : IsRollout r) where
+  abbrev z : Scenario (Doc A) (Query F) (Script A O)
+  z = scenario_of r
+
+  -- the pages of an instance
+  abbrev pages : ℕ → Rows (Doc A) → ℕ
+  pages i = pages_by (r.set_of i).batch
+
+  paged : (i : ℕ) → Paged (select r.words.holds) (settings_of r.words r.names (r.set_of i)) (pages i)
+  paged i = by (r.set_of i).batch (is.batches (r.set_of i) (is.runs i))
     where
-      by : (b : ℕ) → 0 < b → (k : ℕ) → b ≤ k → Paged (select r.words.holds) (settings_of r.words r.names (record { registry = (r.set_of i).registry; batch = k; attempts = (r.set_of i).attempts })) (pages_by b)
-      by zero p k l = absurd (omega arith)
-      by (suc b) p zero l = absurd (omega arith)
-      by (suc b) p (suc k) l = record {
-        fewer = λ before rest sorted. (take (suc k) rest, drop (suc k) rest, sym (take-append-drop (suc k) rest), page_take r.words.holds k before rest sorted, fewer_left b k (omega arith) rest);
+      by : (k : ℕ) → 0 < k → Paged (select r.words.holds) (settings_of r.words r.names (record { registry = (r.set_of i).registry; batch = k; attempts = (r.set_of i).attempts })) (pages_by k)
+      by zero p = absurd (omega arith)
+      by (suc k) p = record {
+        fewer = λ before rest sorted. (take (suc k) rest, drop (suc k) rest, sym (take-append-drop (suc k) rest), page_take r.words.holds k before rest sorted, fewer_left k k (omega arith) rest);
       }
 
-  pub short : (journal : List (Entry (Doc A) (Query F))) → IsJournal (scenario_of r) journal → AllShort (scenario_of r).race (pages_by batch) (scenario_of r).sets (trace_after (scenario_of r) journal)
+  pub short : (journal : List (Entry (Doc A) (Query F))) → IsJournal z journal → AllShort z.race pages z.sets (trace_after z journal)
   short journal conforms =
-      let s : Scenario (Doc A) (Query F) (Script A O) = scenario_of r in
-      starts_short s.race s.current s.sets (Fresh r is) (Sound r is) (laws r is) (IsEmptyOpening s.opening) (opening_store s.current s.opening)
-      (opens_well s.race s.current s.sets (Fresh r is) (Sound r is) (laws r is) s.opening (Rattle.upgrade_laws.proofs.Claims.opens r is)) (pages_by batch) paged s.instances s.scripts journal (all_sound r is r.scripts is.scripts) conforms
+      starts_short z.race z.current z.sets (Fresh r is) (Sound r is) (laws r is) (IsEmptyOpening z.opening) (opening_store z.current z.opening)
+      (opens_well z.race z.current z.sets (Fresh r is) (Sound r is) (laws r is) z.opening (opens r is)) pages paged z.instances z.scripts journal (all_sound r is r.scripts is.scripts) conforms
+
+  -- each target's name has its version
+  knows : (v : Settings (Doc A) (Query F)) → Has v z.sets → (version : Text) × (named_version r.names v.target ≡ Some version)
+  knows v h =
+      let o = in_of r is r.sets v h in
+      (r.names.text o.0.registry.version, subst (λ (x : Settings (Doc A) (Query F)). named_version r.names x.target ≡ Some (r.names.text o.0.registry.version)) (sym o.2) (ap (text_of r.names.text) ((names r is).version_named o.0 o.1)))
+
+  pub goes_well : (before after : List (Entry (Doc A) (Query F))) (first : Entry (Doc A) (Query F)) (i tag : ℕ) (start past : Past (Doc A) (Query F)) → IsJournal z (before ++ first ∷ after) → IsOwn i tag first
+      → nth (trace_after z before).pasts i ≡ Some start → state_of tag start.runs ≡ Init
+      → IsUnhindered z.race i tag (z.race.settings i) (facts_since z (named_version r.names) before (first ∷ after)) (trace_after z before) (first ∷ after) (at z.current (trace_after z before).store.aliases)
+      → nth (trace_after z (before ++ first ∷ after)).pasts i ≡ Some past
+      → GoesWell (pages i) (z.race.settings i) (trace_after z (before ++ first ∷ after)).store (at z.current (trace_after z before).store.aliases) (heard_of tag past.runs) (state_of tag past.runs)
+  goes_well before after first i tag start past =
+      goes z (Fresh r is) (Sound r is) (laws r is) (opens r is) (all_sound r is r.scripts is.scripts) (named_version r.names) knows pages paged before after first i tag start past (finds_unknown r.words r.names (r.set_of i))
+
+  pub machine_goes_well : (events : List Event) (before after : List (Entry (Doc A) (Query F))) (first : Entry (Doc A) (Query F)) (i : ℕ) (start : Past (Doc A) (Query F)) (node : Node (Doc A) (Query F)) (m : Machine (Doc A))
+      → nth (world_after z events).nodes i ≡ Some node → node.machine ≡ Some m → (HasFailed node.starts node.sent → ⊥) → (world_after z events).journal ≡ before ++ first ∷ after
+      → IsOwn i node.starts first → nth (trace_after z before).pasts i ≡ Some start → state_of node.starts start.runs ≡ Init
+      → IsUnhindered z.race i node.starts (z.race.settings i) (facts_since z (named_version r.names) before (first ∷ after)) (trace_after z before) (first ∷ after) (at z.current (trace_after z before).store.aliases)
+      → (heard : ℕ) × GoesWell (pages i) (z.race.settings i) (world_after z events).store (at z.current (trace_after z before).store.aliases) heard m.state
+  machine_goes_well events before after first i start node m =
+      machine_goes z (Fresh r is) (Sound r is) (laws r is) (opens r is) (all_sound r is r.scripts is.scripts) (named_version r.names) knows pages paged events before after first i start node m (finds_unknown r.words r.names (r.set_of i))
+
+  module _ (set : TargetSet O) (single : IsOfOneSet r set) where
+    one : IsOneVersion z (settings_of r.words r.names set)
+    one = record { all = λ i. ap (settings_of r.words r.names) (single.all i); above = by r.start is.start single.above }
+      where
+        version : TargetSet O → Ver
+        version s = s.registry.version
+
+        above_first : (first : TargetSet O) → Has first r.sets → ver_lt (version first) (version set) ≡ true → IsAbove (settings_of r.words r.names set) (opening_of r.words r.names (Holding first empty_table))
+        above_first first h lt =
+            let named : r.names.version_in (r.names.target (version first)) ≡ Some (version first) = (names r is).version_named first h in
+            let n : ver_lt (version set) (version first) ≡ false = not_above (version first) (version set) lt in (
+              subst (λ o. is_above o (version set) ≡ false) (sym named) n,
+              subst (λ o. is_that o (version set) ≡ false) (sym named) (rw (n, lt) refl),
+            )
+
+        by : (o : Start A O) → StartsWell r.sets r.set_of o → StartsBelow set o → IsAbove (settings_of r.words r.names set) (opening_of r.words r.names o)
+        by Empty w a = tt
+        by (Holding first table) w a = above_first first w.0 a
+
+    not_empty : z.opening ≢ NoGeneration → r.start ≢ Empty
+    not_empty n e = n (ap (opening_of r.words r.names) e)
+
+    pub fails : (journal : List (Entry (Doc A) (Query F))) → IsJournal z journal → (i tag : ℕ) (past : Past (Doc A) (Query F)) (cause : Cause) → nth (trace_after z journal).pasts i ≡ Some past → state_of tag past.runs ≡ Ended (Fatal cause)
+        → IsByDocuments cause × (r.start ≢ Empty)
+    fails journal conforms i tag past cause there ends =
+        let k = fails_by_documents z (Fresh r is) (Sound r is) (laws r is) (opens r is) (all_sound r is r.scripts is.scripts) (settings_of r.words r.names set) one journal conforms i tag past cause there ends in
+        (k.0, not_empty k.1)
+
+    pub machine_fails : (events : List Event) (i : ℕ) (node : Node (Doc A) (Query F)) (m : Machine (Doc A)) (cause : Cause) → nth (world_after z events).nodes i ≡ Some node → node.machine ≡ Some m → m.state ≡ Ended (Fatal cause) → IsByDocuments cause × (r.start ≢ Empty)
+    machine_fails events i node m cause there is_running ends =
+        let k = machine_fails_by_documents z (Fresh r is) (Sound r is) (laws r is) (opens r is) (all_sound r is r.scripts is.scripts) (settings_of r.words r.names set) one events i node m cause there is_running ends in
+        (k.0, not_empty k.1)

@@ -20,6 +20,7 @@ use Rattle.call_effects.proofs.Versions.{lt_trans, lt_level}
 use Rattle.call_effects.proofs.Fitting.{ver_self}
 use Rattle.call_laws.proofs.Keeping.{OnAlias, FreshAsk, FreshHeard, script_on_alias, script_fresh, script_keeps, script_registry}
 use Rattle.upgrade_laws.specs.Premises.{NamesApart, AllBegin, IsRollout}
+use Rattle.upgrade_laws.proofs.Naming.{names_apart}
 use Rattle.upgrade_laws.proofs.Selecting.{page_is, each_selected, none_outdated}
 use Rattle.upgrade_laws.proofs.Listed.{all_listed}
 use Rattle.upgrade_laws.proofs.Moves.{outcome_fresh}
@@ -116,7 +117,7 @@ module _ {A O F : Type 0} (r : Rollout A O F) (is : IsRollout r) where
   in_is [] s h = h
   in_is (x ∷ sets) s h = elim h [ inl e ↦ inl (ap S e) | inr k ↦ inr (in_is sets s k) ]
 
-  in_of : (sets : List (TargetSet O)) (v : Settings (Doc A) (Query F)) → Has v (all_settings r.words r.names sets) → (s : TargetSet O) × Has s sets × (v ≡ S s)
+  pub in_of : (sets : List (TargetSet O)) (v : Settings (Doc A) (Query F)) → Has v (all_settings r.words r.names sets) → (s : TargetSet O) × Has s sets × (v ≡ S s)
   unfolding Has
   in_of [] v h = absurd h
   in_of (x ∷ sets) v h = elim h [ inl e ↦ (x, inl refl, e) | inr k ↦ (let o = in_of sets v k in (o.0, inr o.1, o.2)) ]
@@ -124,8 +125,8 @@ module _ {A O F : Type 0} (r : Rollout A O F) (is : IsRollout r) where
   abbrev of : (v : Settings (Doc A) (Query F)) → In v → (s : TargetSet O) × Has s r.sets × (v ≡ S s)
   of v h = in_of r.sets v h
 
-  abbrev names : NamesApart r.words r.names r.sets
-  names = is.names
+  abbrev pub names : NamesApart r.words r.names r.sets
+  names = names_apart r.words r.names r.sets is.names
 
   -- one set for each alias
   pub same_alias : (s t : TargetSet O) → Has s r.sets → Has t r.sets → r.words.version_alias s.registry.version ≡ r.words.version_alias t.registry.version → s ≡ t
@@ -134,8 +135,8 @@ module _ {A O F : Type 0} (r : Rollout A O F) (is : IsRollout r) where
   pub same_set : (s t : TargetSet O) → Has s r.sets → Has t r.sets → S s ≡ S t → s ≡ t
   same_set s t h k e = same_alias s t h k (ap (λ (v : Settings (Doc A) (Query F)). v.version) e)
 
-  names_apart : race.NamesApart r.names.current In
-  names_apart = record {
+  race_names_apart : race.NamesApart r.names.current In
+  race_names_apart = record {
     current = λ v h. let o = of v h in ap (λ (x : Settings (Doc A) (Query F)). x.current) o.2;
     cur_ver = λ v h. let o = of v h in subst (λ (x : Settings (Doc A) (Query F)). r.names.current ≢ x.version) (sym o.2) (names.current_alias o.0 o.1);
     cur_target = λ v h. let o = of v h in subst (λ (x : Settings (Doc A) (Query F)). r.names.current ≢ x.target) (sym o.2) (names.current_target o.0 o.1);
@@ -269,7 +270,7 @@ module _ {A O F : Type 0} (r : Rollout A O F) (is : IsRollout r) where
   -- all premises of the race
   pub laws : RaceLaws (call_race r.words (λ i. S (r.set_of i))) r.names.current In Fresh Sound
   laws = record {
-    names = names_apart;
+    names = race_names_apart;
     order = in_order;
     runs = λ i. in_is r.sets (r.set_of i) (is.runs i);
     page = λ v h before rest sorted. let o = of v h in subst (λ (x : Settings (Doc A) (Query F)). (front back : Rows (Doc A)) × (rest ≡ front ++ back) × ((select r.words.holds).rows (x.page (Rattle.race_model.specs.Sorted.last_key None before)) (before ++ rest) ≡ front) × (front ≡ [] → rest ≡ [])) (sym o.2) (page_of o.0 (is.batches o.0 o.1) before rest sorted);

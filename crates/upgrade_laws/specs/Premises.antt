@@ -1,9 +1,13 @@
--- What a rollout takes for granted: names apart, registries that are well formed, and scripts that begin.
-use Rattle.std.specs.Prelude.{◌≡◌, ◌≢◌, ◌<◌, ◌⊎◌, ℕ, ◌+◌, ◌-◌, ◌/◌, length, List, [], ◌∷◌, Some, None, IsTrue}
+-- What a rollout takes for granted: the product's names, registries that are well formed, and scripts that begin.
+use Rattle.std.specs.Prelude.{◌≡◌, ◌≢◌, ◌<◌, ◌⊎◌, ℕ, ◌+◌, ◌-◌, ◌/◌, length, true, List, [], ◌∷◌, Some, None, IsTrue}
 use Rattle.race_model.specs.Stores.{Rows}
 use Rattle.race_model.specs.Sorted.{IsSorted}
 use Rattle.race_model.specs.Journals.{Has}
+use Rattle.version_token.specs.declared.Ver.{Ver}
+use Rattle.version_token.specs.Version.{ver_text, IsVer}
+use Rattle.document_model.specs.Documents.{ver_lt}
 use Rattle.document_model.specs.Registries.{Registry}
+use Rattle.raw_id.specs.IndexNames.{current_alias, version_alias, target, temp, version_in}
 use Rattle.call_model.specs.Words.{Words}
 use Rattle.call_model.specs.Scripts.{Script}
 use Rattle.call_model.specs.Upgrades.{Named, TargetSet, Start, Rollout, names_apart}
@@ -13,6 +17,17 @@ use Rattle.call_laws.specs.Meanings.{Numbered}
 -- no type's name stands twice
 abbrev pub IsRegistry : {O : Type 0} → Registry O → Type 0
 IsRegistry reg = IsTrue (names_apart reg.types)
+
+-- the product's names of the current alias and of indices
+abbrev pub product_names : Named
+product_names = record { current = current_alias; target = target; temp = temp; version_in = version_in; text = ver_text }
+
+-- the names are the product's, its versions have numbers of 64 bits, and there is one set for each version
+pub record HasProductNames {A O F : Type 0} (w : Words A O F) (names : Named) (sets : List (TargetSet O)) : Type 0 where
+  pub product : names ≡ product_names
+  pub alias : (v : Ver) → w.version_alias v ≡ version_alias v
+  pub bounded : (s : TargetSet O) → Has s sets → IsVer s.registry.version
+  pub one_each : (s t : TargetSet O) → Has s sets → Has t sets → s.registry.version ≡ t.registry.version → s ≡ t
 
 -- the names of all versions are apart, and a target's name has its version
 pub record NamesApart {A O F : Type 0} (w : Words A O F) (names : Named) (sets : List (TargetSet O)) : Type 0 where
@@ -47,12 +62,22 @@ AllBegin sets (c ∷ cs) = Begins sets c × AllBegin sets cs
 
 -- all that a rollout takes for granted
 pub record IsRollout {A O F : Type 0} (r : Rollout A O F) : Type 0 where
-  pub names : NamesApart r.words r.names r.sets
+  pub names : HasProductNames r.words r.names r.sets
   pub registries : (s : TargetSet O) → Has s r.sets → IsRegistry s.registry
   pub batches : (s : TargetSet O) → Has s r.sets → 0 < s.batch
   pub runs : (i : ℕ) → Has (r.set_of i) r.sets
   pub start : StartsWell r.sets r.set_of r.start
   pub scripts : AllBegin r.sets r.scripts
+
+-- the store opens empty, or with the documents of a version below the set's
+abbrev pub StartsBelow : {A O : Type 0} → TargetSet O → Start A O → Type 0
+StartsBelow set Empty = Unit {0}
+StartsBelow set (Holding first table) = ver_lt first.registry.version set.registry.version ≡ true
+
+-- every instance is of this set, whose version is above the opening's
+pub record IsOfOneSet {A O F : Type 0} (r : Rollout A O F) (set : TargetSet O) : Type 0 where
+  pub all : (i : ℕ) → r.set_of i ≡ set
+  pub above : StartsBelow set r.start
 
 -- how many pages of this size rows fill
 abbrev pub pages_by : {D : Type 0} → ℕ → Rows D → ℕ

@@ -1,30 +1,37 @@
 //! The laws of a rollout: instances of any versions migrate real documents, while clients of any versions
-//! make real object calls. No premise is about documents, queries, migrations or calls: names are apart,
-//! no type's name stands twice, batches aren't empty, the opening is in order and numbered, and scripts
-//! begin.
+//! make real object calls. No premise is about documents, queries, migrations, calls or names: there is one
+//! set for each version, no type's name stands twice, batches aren't empty, the opening is in order and
+//! numbered, and scripts begin.
 #![tactic(auto)]
 
-ghost use Rattle.std.specs.Prelude.{◌≡◌, ℕ, ◌<◌, ◌≤◌, List, [], ◌∷◌, ◌++◌, Option, Some};
-ghost use Rattle.base_model.specs.Keyed.{Text};
-ghost use Rattle.race_model.specs.Machines.{Cause, End, moved};
-ghost use Rattle.race_model.specs.Machines.State.{Ended};
+ghost use Rattle.std.specs.Prelude.{◌≡◌, ◌≢◌, ℕ, List, [], ◌∷◌, ◌++◌, map, Option, Some};
+ghost use Rattle.base_model.specs.Keyed.{Text, at};
+ghost use Rattle.race_model.specs.Stores.{Rows};
+ghost use Rattle.race_model.specs.Machines.{Cause, End, Machine, moved, raws_where, is_unknown};
+ghost use Rattle.race_model.specs.Machines.State.{Init, Ended};
 ghost use Rattle.race_model.specs.Machines.End.{Fatal};
 ghost use Rattle.race_model.specs.Generations.{Generations};
-ghost use Rattle.race_model.specs.Worlds.{Entry, Event, nth};
+ghost use Rattle.race_model.specs.Worlds.{Entry, Event, Node, nth};
 ghost use Rattle.race_model.specs.Worlds.Actor.{Instance};
 ghost use Rattle.race_model.specs.Worlds.How.{Heard};
-ghost use Rattle.race_model.specs.Journals.{Past, state_of};
+ghost use Rattle.race_model.specs.Journals.{Past, state_of, heard_of};
 ghost use Rattle.race_model.specs.Runs.{IsRun};
-ghost use Rattle.race_model.specs.Openings.{IsEmptyOpening, opening_generations, found_at_opening, IsJournal, world_after, trace_after, facts_of_journal};
+ghost use Rattle.race_model.specs.Openings.{IsEmptyOpening, opening_generations, found_at_opening, IsJournal, world_after, trace_after, facts_of_journal, facts_since};
 ghost use Rattle.race_facts.specs.Raced.{Raced};
 ghost use Rattle.race_history.specs.Generated.{AreShown, HasFact};
 ghost use Rattle.race_bound.specs.Short.{AllShort};
 ghost use Rattle.race_claims.specs.Shown.{IsShown};
+ghost use Rattle.race_claims.specs.OneVersion.{IsByDocuments};
+ghost use Rattle.race_claims.specs.Unfailing.{HasFailed};
+ghost use Rattle.race_claims.specs.Unhindered.{IsOwn, IsUnhindered, GoesWell};
 ghost use Rattle.document_model.specs.Documents.{Doc};
-ghost use Rattle.query_model.specs.Queries.{Query};
+ghost use Rattle.document_model.specs.Migrations.{outcome};
+ghost use Rattle.query_model.specs.Queries.{Query, select};
+ghost use Rattle.call_model.specs.Words.{Words};
 ghost use Rattle.call_model.specs.History.{IsLegal};
-ghost use Rattle.call_model.specs.Upgrades.{Rollout, scenario_of, named_version};
-ghost use Rattle.upgrade_laws.specs.Premises.{IsRollout, pages_by};
+ghost use Rattle.call_model.specs.Upgrades.{Named, TargetSet, Rollout, settings_of, scenario_of, named_version};
+ghost use Rattle.call_model.specs.Upgrades.Start.{Empty};
+ghost use Rattle.upgrade_laws.specs.Premises.{HasProductNames, NamesApart, IsRollout, IsOfOneSet, pages_by};
 
 /// Every journal of a rollout that conforms is legal: its facts, by playing the aliases and by the plans
 /// of its clients, are a run of one table per version; each migration is a single step, which appends
@@ -70,8 +77,64 @@ pub fn causes_are_shown<A, O, F>()
 {}
 
 /// No start looks again once it heard a reply, and each hears at most fourteen replies and two for each
-/// page of a blocked generation of a version below, where no set's pages are smaller than `batch`.
+/// page of a blocked generation of a version below, in pages of its own set.
 pub fn starts_are_short<A, O, F>()
-    ensures { (r : Rollout A O F) (batch : ℕ) (journal : List (Entry (Doc A) (Query F))) → IsRollout r → 0 < batch → ((i : ℕ) → batch ≤ (r.set_of i).batch) → IsJournal (scenario_of r) journal →
-        AllShort (scenario_of r).race (pages_by batch) (scenario_of r).sets (trace_after (scenario_of r) journal) }
+    ensures { (r : Rollout A O F) (journal : List (Entry (Doc A) (Query F))) → IsRollout r → IsJournal (scenario_of r) journal →
+        AllShort (scenario_of r).race (λ i. pages_by (r.set_of i).batch) (scenario_of r).sets (trace_after (scenario_of r) journal) }
+{}
+
+/// A start that nothing stands against ends as done with its version's one target, within fourteen
+/// replies and two for each page, of its own set's, of its blocked source: along every journal it is
+/// done, or has a further request within that bound. Nothing stands against it where the current alias
+/// named its version's target at its first entry; or named an index of a version not above, or nothing,
+/// and since then no migration or install of another version was done, and at each of its own entries the
+/// indices of its names have that source, no unknown, corrupt or newer document stands in it, and it is
+/// clean once it is blocked.
+pub fn unhindered_starts_end_as_done<A, O, F>()
+    ensures { (r : Rollout A O F) (before after : List (Entry (Doc A) (Query F))) (first : Entry (Doc A) (Query F)) (i tag : ℕ) (start past : Past (Doc A) (Query F)) →
+        IsRollout r → IsJournal (scenario_of r) (before ++ first ∷ after) →
+        IsOwn i tag first → nth (trace_after (scenario_of r) before).pasts i ≡ Some start → state_of tag start.runs ≡ Init →
+        IsUnhindered (scenario_of r).race i tag ((scenario_of r).race.settings i) (facts_since (scenario_of r) (named_version r.names) before (first ∷ after)) (trace_after (scenario_of r) before) (first ∷ after) (at r.names.current (trace_after (scenario_of r) before).store.aliases) →
+        nth (trace_after (scenario_of r) (before ++ first ∷ after)).pasts i ≡ Some past →
+        GoesWell (pages_by (r.set_of i).batch) ((scenario_of r).race.settings i) (trace_after (scenario_of r) (before ++ first ∷ after)).store (at r.names.current (trace_after (scenario_of r) before).store.aliases) (heard_of tag past.runs) (state_of tag past.runs) }
+{}
+
+/// The same of a world, for the start of an instance none of whose sends failed: its machine is done with
+/// its version's one target, or has a further request within the bound.
+pub fn unhindered_machines_end_as_done<A, O, F>()
+    ensures { (r : Rollout A O F) (events : List Event) (before after : List (Entry (Doc A) (Query F))) (first : Entry (Doc A) (Query F)) (i : ℕ) (start : Past (Doc A) (Query F)) (node : Node (Doc A) (Query F)) (m : Machine (Doc A)) →
+        IsRollout r → nth (world_after (scenario_of r) events).nodes i ≡ Some node → node.machine ≡ Some m → (HasFailed node.starts node.sent → ⊥) →
+        (world_after (scenario_of r) events).journal ≡ before ++ first ∷ after →
+        IsOwn i node.starts first → nth (trace_after (scenario_of r) before).pasts i ≡ Some start → state_of node.starts start.runs ≡ Init →
+        IsUnhindered (scenario_of r).race i node.starts ((scenario_of r).race.settings i) (facts_since (scenario_of r) (named_version r.names) before (first ∷ after)) (trace_after (scenario_of r) before) (first ∷ after) (at r.names.current (trace_after (scenario_of r) before).store.aliases) →
+        (heard : ℕ) × GoesWell (pages_by (r.set_of i).batch) ((scenario_of r).race.settings i) (world_after (scenario_of r) events).store (at r.names.current (trace_after (scenario_of r) before).store.aliases) heard m.state }
+{}
+
+/// Where every instance is of one version, above the opening's, a start fails by documents alone: it ends
+/// with one of the causes UnknownObjects, CorruptObjects, NewerObjects and Collision, and in a store that
+/// opened empty it never fails. So NewerIndex, OtherVersion and Leftover never come.
+pub fn one_version_fails_by_documents<A, O, F>()
+    ensures { (r : Rollout A O F) (set : TargetSet O) (journal : List (Entry (Doc A) (Query F))) → IsRollout r → IsOfOneSet r set → IsJournal (scenario_of r) journal →
+        (i tag : ℕ) (past : Past (Doc A) (Query F)) (cause : Cause) → nth (trace_after (scenario_of r) journal).pasts i ≡ Some past → state_of tag past.runs ≡ Ended (Fatal cause) →
+        IsByDocuments cause × (r.start ≢ Empty) }
+{}
+
+/// The same of every world.
+pub fn worlds_of_one_version_fail_by_documents<A, O, F>()
+    ensures { (r : Rollout A O F) (set : TargetSet O) (events : List Event) → IsRollout r → IsOfOneSet r set →
+        (i : ℕ) (node : Node (Doc A) (Query F)) (m : Machine (Doc A)) (cause : Cause) → nth (world_after (scenario_of r) events).nodes i ≡ Some node → node.machine ≡ Some m → m.state ≡ Ended (Fatal cause) →
+        IsByDocuments cause × (r.start ≢ Empty) }
+{}
+
+/// A version's check for unknown objects finds exactly the rows whose documents are of a type that its
+/// registry neither knows nor removed, in their order.
+pub fn check_finds_the_unknown<A, O, F>()
+    ensures { (words : Words A O F) (names : Named) (set : TargetSet O) (rows : Rows (Doc A)) →
+        map (λ row. row.0) ((select words.holds).rows (settings_of words names set).unknown rows) ≡ raws_where (λ raw doc. is_unknown (outcome words.transforms set.registry raw doc)) rows }
+{}
+
+/// The product's names of the current alias, of version aliases, targets and temporary indices are apart
+/// for all versions of a rollout, and a target's name tells its version.
+pub fn product_names_are_apart<A, O, F>()
+    ensures { (words : Words A O F) (names : Named) (sets : List (TargetSet O)) → HasProductNames words names sets → NamesApart words names sets }
 {}

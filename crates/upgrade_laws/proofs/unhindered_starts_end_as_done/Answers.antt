@@ -1,0 +1,5 @@
+use Rattle.upgrade_laws.proofs.Claims.{goes_well}
+use Rattle.upgrade_laws.proofs.unhindered_starts_end_as_done.Goals as goal
+
+pub returns : goal.returns
+returns g c = λ r before after first i tag start past is. goes_well r is before after first i tag start past
