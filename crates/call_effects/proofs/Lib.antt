@@ -3,3 +3,4 @@ pub mod Versions
 pub mod Fitting
 pub mod Replying
 pub mod Raws
+pub mod Showing

@@ -2,7 +2,7 @@
 //! fits, raw ids are apart, and replies fit.
 #![tactic(auto)]
 
-ghost use Rattle.std.specs.Prelude.{◌≡◌, ◌≢◌, Bool, true, List, Option, Some, None};
+ghost use Rattle.std.specs.Prelude.{◌≡◌, ◌≢◌, ℕ, Bool, true, List, Option, Some, None};
 ghost use Rattle.base_model.specs.Keyed.{Text, at};
 ghost use Rattle.race_model.specs.Stores.{Store, Request, serve};
 ghost use Rattle.race_model.specs.Sorted.{IsSorted};
@@ -14,13 +14,14 @@ ghost use Rattle.document_model.specs.Registries.{Registry};
 ghost use Rattle.query_model.specs.Queries.{Query, Holds, select};
 ghost use Rattle.call_model.specs.declared.refuse.Refuse.{Refuse};
 ghost use Rattle.call_model.specs.Words.{Words};
-ghost use Rattle.call_model.specs.Calls.{NewObject, One, Call};
-ghost use Rattle.call_model.specs.Calls.Call.{BulkCreating};
-ghost use Rattle.call_model.specs.Calls.Answer.{Each, Refused};
+ghost use Rattle.call_model.specs.Calls.{NewObject, Find, Shown, One, Call};
+ghost use Rattle.call_model.specs.Calls.Call.{BulkCreating, Getting, Finding};
+ghost use Rattle.call_model.specs.Calls.Answer.{Object, Each, Page, Refused};
 ghost use Rattle.call_model.specs.Steps.{called};
 ghost use Rattle.race_model.specs.Replies.{fits_reply};
 ghost use Rattle.call_laws.specs.Meanings.{then_on};
-ghost use Rattle.call_effects.specs.Effects.{AllFit, RefusedAt, AllRefused};
+ghost use Rattle.call_effects.specs.Effects.{AllFit, RefusedAt, AllRefused, AllVisible, IsSeenRow};
+ghost use Rattle.query_model.specs.declared.parts.Target.{Target};
 
 /// Where neither space is the other's type, one raw id is of one object: one type, one id, and for
 /// single types one space.
@@ -56,4 +57,13 @@ pub fn written_rows_fit<A, O, F>()
 pub fn replies_fit<A, F>()
     ensures { (holds : Holds A F) (st : Store (Doc A)) (ask : Request (Doc A) (Query F)) →
         IsSorted st.indices → IsSorted st.aliases → fits_reply (λ (q : Query F). q.limit) ask (serve (select holds) st ask).1 ≡ true }
+{}
+
+/// What a find shows are rows of its types that are visible in its space; what a get shows is the row of
+/// its object, which has its type and is visible in its space.
+pub fn what_is_shown_is_visible<A, O, F>()
+    ensures find { (w : Words A O F) (reg : Registry O) (space : Text) (f : Find) (read : Option (Generation (Doc A))) (g : Generation (Doc A)) (objects : List (Shown A)) (page per_page total : ℕ) →
+        (called w reg (Finding space f) read (Some g)).1 ≡ Page objects page per_page total → AllVisible reg space f.types g.table.rows objects }
+    ensures get { (w : Words A O F) (reg : Registry O) (space : Text) (t : Target) (read : Option (Generation (Doc A))) (g : Generation (Doc A)) (object : Shown A) →
+        (called w reg (Getting space t) read (Some g)).1 ≡ Object object → IsSeenRow reg space t g.table.rows object }
 {}

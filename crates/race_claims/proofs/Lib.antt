@@ -9,6 +9,8 @@ pub mod Going
 pub mod Ending
 pub mod OneVersion
 pub mod OneClaim
+pub mod Nodes
 pub mod Unfailing
+pub mod Counting
 pub mod Scenarios
 pub mod Laws

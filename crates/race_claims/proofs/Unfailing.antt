@@ -1,25 +1,24 @@
 -- A machine gives up only where one of its start's sends failed.
-use Rattle.std.proofs.Common.{◌≡◌, ℕ, ◌+◌, List, [], ◌∷◌, ◌++◌, Bool, true, false, Option, Some, None, refl, sym, ◌∙◌, ap, subst, if◌then◌else◌, replicate, zero, suc}
+use Rattle.std.proofs.Common.{◌≡◌, ℕ, ◌+◌, List, [], ◌∷◌, ◌++◌, Bool, true, false, Option, Some, None, refl, sym, ◌∙◌, ap, subst, if◌then◌else◌}
 use mathlib.Core.Logic.◌⊎◌.{inl, inr}
 use Rattle.base_model.specs.Keyed.{Text, at}
-use Rattle.race_model.specs.Stores.{IndexSeen, Store, Request, Reply, serve}
+use Rattle.race_model.specs.Stores.{IndexSeen, Store, Request, Reply}
 use Rattle.race_model.specs.Stores.Reply.{Seen}
-use Rattle.race_model.specs.Machines.{Settings, State, StateName, Machine, request, moved, started, answered, failed, is_on, unless_left, unless_legacy, by_index, by_aliases, from_state}
+use Rattle.race_model.specs.Machines.{Settings, State, StateName, Machine, request, moved, started, answered, is_on, unless_left, unless_legacy, by_index, by_aliases, from_state}
 use Rattle.race_model.specs.Machines.Cause.{NewerIndex, VersionAliasMissing, Leftover}
 use Rattle.race_model.specs.Machines.End.{Fatal, GaveUp}
 use Rattle.race_model.specs.Machines.Finish.{Stands, Switch}
 use Rattle.race_model.specs.Machines.State.{Init, CreateNewTarget, CheckUnknown, SetSourceBlock, CreateTemp, ReindexOpen, ReindexRead, ReindexBulk, ReindexClose, SetTempBlock, CloneTemp, OutdatedOpen, OutdatedRead, OutdatedBulk, OutdatedClose, MarkReady, MarkReadyConflict, Ended}
-use Rattle.race_model.specs.Worlds.{Race, Sent, Node, Caller, World, Event, nth, sent_by, stepped, step_machine, step, lost, lose_machine, lose, repeat, again, asked_by, stop_running, stop, start_idle, start, called, call, cut_off, cut, asked_of, happens, run, idle, open_world}
-use Rattle.race_model.specs.Worlds.Event.{Step, Lost, Again, Stop, Start, Cut}
+use Rattle.race_model.specs.Worlds.{Race, Sent, Node, Event, nth, sent_by, run, open_world}
 use Rattle.race_model.specs.Journals.{Past, Trace, state_of}
 use Rattle.race_follow.proofs.Following.{places_at, NodeAgrees, Agrees}
-use Rattle.race_facts.proofs.Racing.{EachPlace, place_at, place_with}
 use Rattle.race_claims.specs.Unfailing.{HasFailed}
+use Rattle.race_claims.proofs.Nodes.{every_node}
 use Rattle.race_claims.proofs.Ways.{Way, Next, nexts}
 use Rattle.race_claims.proofs.Ways.Way.{Fresh, Standing, Below}
 
 -- the machine didn't give up
-abbrev Sane : {D : Type 0} → State D → Type 0
+abbrev pub Sane : {D : Type 0} → State D → Type 0
 Sane (Ended (GaveUp name faults)) = ⊥
 Sane _ = Unit {0}
 
@@ -80,7 +79,7 @@ module _ {D Q : Type 0} (v : Settings D Q) where
   from_state_sane _ = tt
 
   -- no reply makes a running machine give up
-  moved_sane : (x : State D) (ask : Request D Q) (reply : Reply D) → request v x ≡ Some ask → Sane (moved v x reply)
+  pub moved_sane : (x : State D) (ask : Request D Q) (reply : Reply D) → request v x ≡ Some ask → Sane (moved v x reply)
   unfolding moved request
   moved_sane Init ask reply e = from_state_sane reply
   moved_sane (Ended end) ask reply e = absurd (cc)
@@ -105,124 +104,34 @@ failed_end tag (x ∷ xs) ask = inr (failed_end tag xs ask)
 
 module _ {D Q C : Type 0} (race : Race D Q C) where
   -- who gave up has a send that failed
-  abbrev pub Told : ℕ → Node D Q → Type 0
+  abbrev Told : ℕ → Node D Q → Type 0
   Told i node = (m : Machine D) (name : StateName) (faults : ℕ) → node.machine ≡ Some m → m.state ≡ Ended (GaveUp name faults) → HasFailed node.starts node.sent
 
-  All : World D Q C → Type 0
-  All w = EachPlace Told w.nodes
+  step_told : (i : ℕ) (node : Node D Q) (m : Machine D) (ask : Request D Q) (reply : Reply D) → Told i node → node.machine ≡ Some m → request (race.settings i) m.state ≡ Some ask → Told i (sent_by node (answered (race.settings i) m reply) ask false)
+  step_told i node m ask reply a e q = λ m' name faults f g.
+      let is : answered (race.settings i) m reply ≡ m' = (let z : Some (answered (race.settings i) m reply) ≡ Some m' = f in cc) in
+      let s : Sane {D = D} (Ended (GaveUp name faults)) = subst (Sane {D = D}) (ap (λ (x : Machine D). x.state) is ∙ g) (moved_sane (race.settings i) m.state ask reply q) in
+      absurd s
 
-  stepped_told : (w : World D Q C) (i : ℕ) (node : Node D Q) (m : Machine D) (o : Option (Request D Q)) → All w → nth w.nodes i ≡ Some node → request (race.settings i) m.state ≡ o → All (stepped race w i node m o)
-  unfolding All
-  stepped_told w i node m None a e q = a
-  stepped_told w i node m (Some ask) a e q =
-      place_with Told w.nodes i node (sent_by node (answered (race.settings i) m (serve race.select w.store ask).1) ask false) a e
-      (λ m' name faults f g.
-      let is : answered (race.settings i) m (serve race.select w.store ask).1 ≡ m' = (let z : Some (answered (race.settings i) m (serve race.select w.store ask).1) ≡ Some m' = f in cc) in
-      let s : Sane {D = D} (Ended (GaveUp name faults)) = subst (Sane {D = D}) (ap (λ (x : Machine D). x.state) is ∙ g) (moved_sane (race.settings i) m.state ask (serve race.select w.store ask).1 q) in
-      absurd s)
+  start_told : (i : ℕ) (node : Node D Q) → Told i (record { machine = Some started; starts = node.starts + 1; sent = node.sent })
+  start_told i node = λ m name faults f g.
+      let is : started ≡ m = (let z : Some started ≡ Some m = f in cc) in
+      absurd (let x : Init ≡ Ended (GaveUp name faults) = subst (λ (y : Machine D). y.state ≡ Ended (GaveUp name faults)) (sym is) g in cc)
 
-  step_told : (w : World D Q C) (i : ℕ) (o : Option (Node D Q)) → All w → nth w.nodes i ≡ o → All (step race w i o)
-  step_told w i None a e = a
-  step_told w i (Some node) a e = by node.machine
-    where
-      by : (x : Option (Machine D)) → All (step_machine race w i node x)
-      by None = a
-      by (Some m) = stepped_told w i node m (request (race.settings i) m.state) a e refl
-
-  lost_told : (w : World D Q C) (i : ℕ) (was_done : Bool) (node : Node D Q) (m : Machine D) (o : Option (Request D Q)) → All w → nth w.nodes i ≡ Some node → All (lost race w i was_done node m o)
-  unfolding All
-  lost_told w i was_done node m None a e = a
-  lost_told w i true node m (Some ask) a e = place_with Told w.nodes i node (sent_by node (failed (race.settings i) m) ask true) a e (λ m' name faults f g. failed_end node.starts node.sent ask)
-  lost_told w i false node m (Some ask) a e = place_with Told w.nodes i node (sent_by node (failed (race.settings i) m) ask true) a e (λ m' name faults f g. failed_end node.starts node.sent ask)
-
-  lose_told : (w : World D Q C) (i : ℕ) (was_done : Bool) (o : Option (Node D Q)) → All w → nth w.nodes i ≡ o → All (lose race w i was_done o)
-  lose_told w i was_done None a e = a
-  lose_told w i was_done (Some node) a e = by node.machine
-    where
-      by : (x : Option (Machine D)) → All (lose_machine race w i was_done node x)
-      by None = a
-      by (Some m) = lost_told w i was_done node m (request (race.settings i) m.state) a e
-
-  again_told : (w : World D Q C) (i send : ℕ) (o : Option (Node D Q)) → All w → All (again race w i send o)
-  unfolding All
-  again_told w i send None a = a
-  again_told w i send (Some node) a = by (nth node.sent send)
-    where
-      by : (x : Option (Sent D Q)) → EachPlace Told (repeat race w i x).nodes
-      by None = a
-      by (Some sent) = a
-
-  stop_told : (w : World D Q C) (i : ℕ) (o : Option (Node D Q)) → All w → nth w.nodes i ≡ o → All (stop race w i o)
-  unfolding All
-  stop_told w i None a e = a
-  stop_told w i (Some node) a e = by (asked_by (race.settings i) node.machine)
-    where
-      by : (x : Option (Request D Q)) → EachPlace Told (stop_running w i node x).nodes
-      by None = a
-      by (Some ask) = place_with Told w.nodes i node (record { machine = None; starts = node.starts; sent = node.sent }) a e (λ m name faults f g. absurd (let z : None ≡ Some m = f in cc))
-
-  start_told : (w : World D Q C) (i : ℕ) (o : Option (Node D Q)) → All w → nth w.nodes i ≡ o → All (start race w i o)
-  unfolding All
-  start_told w i None a e = a
-  start_told w i (Some node) a e = by (asked_by (race.settings i) node.machine)
-    where
-      by : (x : Option (Request D Q)) → EachPlace Told (start_idle w i node x).nodes
-      by (Some ask) = a
-      by None = place_with Told w.nodes i node (record { machine = Some started; starts = node.starts + 1; sent = node.sent }) a e
-          (λ m name faults f g. absurd (let is : started ≡ m = (let z : Some started ≡ Some m = f in cc) in let x : Init ≡ Ended (GaveUp name faults) = subst (λ (y : Machine D). y.state ≡ Ended (GaveUp name faults)) (sym is) g in cc))
-
-  call_told : (w : World D Q C) (k : ℕ) (o : Option (Caller C)) → All w → All (call race w k o)
-  unfolding All
-  call_told w k None a = a
-  call_told w k (Some caller) a = by (asked_of race.clients caller.cut caller.script)
-    where
-      by : (x : Option (Request D Q)) → EachPlace Told (called race w k caller.script x).nodes
-      by None = a
-      by (Some ask) = a
-
-  cut_told : (w : World D Q C) (k : ℕ) (was_done : Bool) (o : Option (Caller C)) → All w → All (cut race w k was_done o)
-  unfolding All
-  cut_told w k was_done None a = a
-  cut_told w k was_done (Some caller) a = by was_done (asked_of race.clients caller.cut caller.script)
-    where
-      by : (b : Bool) (x : Option (Request D Q)) → EachPlace Told (cut_off race w k b caller.script x).nodes
-      by b None = a
-      by true (Some ask) = a
-      by false (Some ask) = a
-
-  event_told : (w : World D Q C) (e : Event) → All w → All (happens race w e)
-  unfolding happens
-  event_told w (Step i) a = step_told w i (nth w.nodes i) a refl
-  event_told w (Lost i was_done) a = lose_told w i was_done (nth w.nodes i) a refl
-  event_told w (Again i send) a = again_told w i send (nth w.nodes i) a
-  event_told w (Stop i) a = stop_told w i (nth w.nodes i) a refl
-  event_told w (Start i) a = start_told w i (nth w.nodes i) a refl
-  event_told w (Event.Client k) a = call_told w k (nth w.callers k) a
-  event_told w (Cut k was_done) a = cut_told w k was_done (nth w.callers k) a
-
-  run_told : (w : World D Q C) (es : List Event) → All w → All (run race w es)
-  unfolding run
-  run_told w [] a = a
-  run_told w (e ∷ es) a = run_told (happens race w e) es (event_told w e a)
-
-  idle_told : (n i k : ℕ) (node : Node D Q) → nth (replicate n idle) i ≡ Some node → Told k node
-  unfolding nth
-  idle_told zero i k node e = absurd (cc)
-  idle_told (suc n) zero k node e = absurd (cc)
-  idle_told (suc n) (suc zero) k node e = λ m name faults f g. absurd (let is : idle ≡ node = cc in let x : None ≡ Some m = subst (λ (y : Node D Q). y.machine ≡ Some m) (sym is) f in cc)
-  idle_told (suc n) (suc (suc i)) k node e = idle_told n (suc i) k node e
-
-  open_told : (st : Store D) (instances : ℕ) (scripts : List C) → All (open_world st instances scripts)
-  unfolding All EachPlace
-  open_told st instances scripts = λ i node e. idle_told instances i i node e
+  told : (st : Store D) (instances : ℕ) (scripts : List C) (es : List Event) (i : ℕ) (node : Node D Q) → nth (run race (open_world st instances scripts) es).nodes i ≡ Some node → Told i node
+  told = every_node race Told
+      (λ i m name faults f g. absurd (let z : None ≡ Some m = f in cc))
+      step_told
+      (λ i node m ask a e q m' name faults f g. failed_end node.starts node.sent ask)
+      (λ i node m name faults f g. absurd (let z : None ≡ Some m = f in cc))
+      start_told
 
   -- a machine none of whose sends failed is in the state that its entries tell
   pub unfailing : (st : Store D) (instances : ℕ) (scripts : List C) (es : List Event) (t : Trace D Q C) → Agrees race t (run race (open_world st instances scripts) es) → (i : ℕ) (node : Node D Q) (m : Machine D) → nth (run race (open_world st instances scripts) es).nodes i ≡ Some node → node.machine ≡ Some m
       → (HasFailed node.starts node.sent → ⊥) → (past : Past D Q) × (nth t.pasts i ≡ Some past) × (state_of node.starts past.runs ≡ m.state)
-  unfolding All
   unfailing st instances scripts es t g i node m e f none =
-      let told = places_at (NodeAgrees race) t.pasts (run race (open_world st instances scripts) es).nodes i node g.nodes e in
-      elim (told.2.state m f) [
-        | inl is ↦ (told.0, told.1, is)
-        | inr gave ↦ absurd (none (place_at Told (run race (open_world st instances scripts) es).nodes i node (run_told (open_world st instances scripts) es (open_told st instances scripts)) e m gave.0 gave.1 f gave.2))
+      let agreed = places_at (NodeAgrees race) t.pasts (run race (open_world st instances scripts) es).nodes i node g.nodes e in
+      elim (agreed.2.state m f) [
+        | inl is ↦ (agreed.0, agreed.1, is)
+        | inr gave ↦ absurd (none (told st instances scripts es i node e m gave.0 gave.1 f gave.2))
       ]

@@ -1,12 +1,12 @@
 //! What the store shows where a start of an instance ends, and that an unhindered start ends as done.
 #![tactic(auto)]
 
-ghost use Rattle.std.specs.Prelude.{◌≡◌, ◌≢◌, ℕ, Bool, List, [], ◌∷◌, ◌++◌, Option, Some};
+ghost use Rattle.std.specs.Prelude.{◌≡◌, ◌≢◌, ◌≤◌, ℕ, Bool, List, [], ◌∷◌, ◌++◌, Option, Some};
 ghost use Rattle.base_model.specs.Keyed.{Text, at};
-ghost use Rattle.race_model.specs.Stores.{Rows};
-ghost use Rattle.race_model.specs.Machines.{Settings, Cause, Machine, moved};
+ghost use Rattle.race_model.specs.Stores.{Rows, Request};
+ghost use Rattle.race_model.specs.Machines.{Settings, Cause, StateName, Machine, request, moved};
 ghost use Rattle.race_model.specs.Machines.State.{Init, Ended};
-ghost use Rattle.race_model.specs.Machines.End.{Fatal};
+ghost use Rattle.race_model.specs.Machines.End.{Fatal, GaveUp};
 ghost use Rattle.race_model.specs.Worlds.{Entry, Event, Node, nth};
 ghost use Rattle.race_model.specs.Worlds.Actor.{Instance};
 ghost use Rattle.race_model.specs.Worlds.How.{Heard};
@@ -16,7 +16,7 @@ ghost use Rattle.race_model.specs.Openings.Opening.{NoGeneration};
 ghost use Rattle.race_model.specs.Premises.{IsFair, Paged};
 ghost use Rattle.race_claims.specs.Shown.{IsShown};
 ghost use Rattle.race_claims.specs.OneVersion.{IsOneVersion, IsByDocuments};
-ghost use Rattle.race_claims.specs.Unfailing.{HasFailed};
+ghost use Rattle.race_claims.specs.Unfailing.{HasFailed, LastFailed, GaveUpAfter};
 ghost use Rattle.race_claims.specs.Unhindered.{IsOwn, FindsUnknown, IsUnhindered, GoesWell};
 
 /// Where a start ends as fatal at an entry, the store shows the cause at that moment; the causes
@@ -78,4 +78,16 @@ pub fn unhindered_machines_end_as_done<D, Q, C>()
         IsOwn i node.starts first → nth (trace_after scenario before).pasts i ≡ Some start → state_of node.starts start.runs ≡ Init →
         IsUnhindered scenario.race i node.starts (scenario.race.settings i) (facts_since scenario version_in before (first ∷ after)) (trace_after scenario before) (first ∷ after) (at scenario.current (trace_after scenario before).store.aliases) →
         (heard : ℕ) × GoesWell (pages i) (scenario.race.settings i) (world_after scenario events).store (at scenario.current (trace_after scenario before).store.aliases) heard m.state }
+{}
+
+/// In every world, whatever its sets and clients: a start gave up only after the request of the state that
+/// it names failed once more than it may try, in a row and last of all; and a machine that has a request
+/// failed no more often in a row than it may try, the faults that it counts being its last sends.
+pub fn giving_up_counts_faults<D, Q, C>()
+    ensures gave_up { (scenario : Scenario D Q C) (events : List Event) (i : ℕ) (node : Node D Q) (m : Machine D) (name : StateName) (faults : ℕ) →
+        nth (world_after scenario events).nodes i ≡ Some node → node.machine ≡ Some m → m.state ≡ Ended (GaveUp name faults) →
+        GaveUpAfter (scenario.race.settings i) node name faults }
+    ensures goes_on { (scenario : Scenario D Q C) (events : List Event) (i : ℕ) (node : Node D Q) (m : Machine D) (ask : Request D Q) →
+        nth (world_after scenario events).nodes i ≡ Some node → node.machine ≡ Some m → request (scenario.race.settings i) m.state ≡ Some ask →
+        (m.faults ≤ (scenario.race.settings i).attempts) × LastFailed node.starts ask m.faults node.sent }
 {}
