@@ -11,7 +11,7 @@ use Rattle.race_model.specs.Sorted.{AllAbove, IsSorted}
 use Rattle.race_model.specs.Openings.{world_after}
 use Rattle.race_follow.proofs.Laws.{worlds_conform}
 use Rattle.space_scope.specs.declared.kind.Kind.TheVariants.{Single}
-use Rattle.document_model.specs.Documents.{Doc, lists}
+use Rattle.document_model.specs.Documents.{ver_lt, Doc, lists}
 use Rattle.version_token.specs.declared.Ver.{Ver}
 use Rattle.version_token.specs.Version.{IsVer}
 use Rattle.raw_id.specs.IndexNames.{version_alias}
@@ -21,7 +21,7 @@ use Rattle.call_model.specs.History.{IsLegal}
 use Rattle.call_model.specs.Upgrades.{TargetSet, Start, Rollout, scenario_of, named_version, names_apart}
 use Rattle.call_model.specs.Upgrades.Start.{Empty, Holding}
 use Rattle.call_laws.specs.Meanings.{Numbered}
-use Rattle.upgrade_laws.specs.Premises.{IsRegistry, product_names, HasProductNames, StartsWell, AllBegin, IsRollout}
+use Rattle.upgrade_laws.specs.Premises.{IsRegistry, product_names, HasProductNames, StartsWell, AllBegin, IsRollout, IsOfOneSet}
 use Rattle.upgrade_laws.proofs.Claims.{legal}
 use Rattle.call_rows.proofs.Example.{words as plain_words}
 use Rattle.call_rows.proofs.Example.{version, registry, set_of, default_space, create, update, get, client, plain_doc}
@@ -67,8 +67,11 @@ three_rows = record {
   next = 3;
 }
 
+abbrev rollout_by : (ℕ → TargetSet ℕ) → Start (Keyed Text) ℕ → Rollout (Keyed Text) ℕ ℕ
+rollout_by set_of start = record { words = words; names = product_names; sets = sets; set_of = set_of; start = start; instances = 3; scripts = writer old ∷ writer new ∷ writer newest ∷ [] }
+
 abbrev rollout : Start (Keyed Text) ℕ → Rollout (Keyed Text) ℕ ℕ
-rollout start = record { words = words; names = product_names; sets = sets; set_of = set_at; start = start; instances = 3; scripts = writer old ∷ writer new ∷ writer newest ∷ [] }
+rollout start = rollout_by set_at start
 
 -- something holds of each set
 each_set : (P : TargetSet ℕ → Type 0) → P old → P new → P newest → (s : TargetSet ℕ) → Has s sets → P s
@@ -114,20 +117,24 @@ set_isnt_old i = by (i == 1)
     by true e = let f : ◌≡◌ {A = ℕ} 1 1000 = ap (λ (x : TargetSet ℕ). x.batch) e in absurd (cc)
     by false e = let f : ◌≡◌ {A = ℕ} 2 1000 = ap (λ (x : TargetSet ℕ). x.batch) e in absurd (cc)
 
--- a chain of three versions, however its store opens
-holds_of : (start : Start (Keyed Text) ℕ) → StartsWell sets set_at start → IsRollout (rollout start)
+-- a rollout of some of the three versions, however its store opens
+holds_by : (set_of : ℕ → TargetSet ℕ) → ((i : ℕ) → Has (set_of i) sets) → (start : Start (Keyed Text) ℕ) → StartsWell sets set_of start → IsRollout (rollout_by set_of start)
 unfolding Has AllBegin names_apart lists same
-holds_of start well = record {
+holds_by set_of runs start well = record {
   names = named;
   registries = each_set (λ s. IsRegistry s.registry) refl refl refl;
   batches = each_set (λ s. 0 < s.batch) (omega arith) (omega arith) (omega arith);
-  runs = set_is_in;
+  runs = runs;
   start = well;
   scripts = (
     record { unheard = refl; first = refl; set = old; is_in = inl refl; registry = refl },
     (record { unheard = refl; first = refl; set = new; is_in = inr (inl refl); registry = refl }, (record { unheard = refl; first = refl; set = newest; is_in = inr (inr (inl refl)); registry = refl }, tt)),
   );
 }
+
+-- a chain of three versions
+holds_of : (start : Start (Keyed Text) ℕ) → StartsWell sets set_at start → IsRollout (rollout start)
+holds_of start well = holds_by set_at set_is_in start well
 
 if_numbered : (raw key : Text) (x c : Cell (Doc (Keyed Text))) (o : Option (Cell (Doc (Keyed Text)))) → x.seq < 3 → (o ≡ Some c → c.seq < 3) → (b : Bool) → (if b then Some x else o) ≡ Some c → c.seq < 3
 if_numbered raw key x c o l f true e = let is : x ≡ c = cc in subst (λ (z : Cell (Doc (Keyed Text))). z.seq < 3) is l
@@ -157,3 +164,17 @@ schedule_is_legal : (start : Start (Keyed Text) ℕ) → StartsWell sets set_at 
 schedule_is_legal start well =
     legal (rollout start) (holds_of start well) (world_after (scenario_of (rollout start)) schedule).journal
     (worlds_conform (scenario_of (rollout start)) schedule)
+
+-- a rollout of one version above the opening's: a start fails by documents alone
+one_set : Rollout (Keyed Text) ℕ ℕ
+one_set = rollout_by (λ i. new) (Holding old three_rows)
+
+new_isnt_old : new ≢ old
+new_isnt_old e = let f : ◌≡◌ {A = ℕ} 2 1000 = ap (λ (x : TargetSet ℕ). x.batch) e in absurd (cc)
+
+one_set_is : IsRollout one_set × IsOfOneSet one_set new
+unfolding one_set Has IsSorted AllAbove text_lt ver_lt
+one_set_is = (
+  holds_by (λ i. new) (λ i. inr (inl refl)) (Holding old three_rows) (inl refl, (λ i. new_isnt_old), ((refl, (refl, tt)), ((refl, tt), (tt, tt))), rows_are_numbered),
+  record { all = λ i. refl; above = refl },
+)

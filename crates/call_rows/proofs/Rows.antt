@@ -103,6 +103,13 @@ find_second_page : pages (drop 3 (applied dashboards empty_table (
 unfolding same text_lt at put without ver_lt lists after known greatest is_outdated chosen is_space own_words is_seen judge act_step turns each_turn all_got alias_target resolve work_of call_step
 find_second_page = refl
 
+-- an object of another space isn't found
+find_shows_its_space_alone : pages (drop 2 (applied dashboards empty_table (
+    create default_space dashboard (codes "d1") [] ∷ create (codes "a") dashboard (codes "d2") [] ∷ find 1 20 ∷ [])))
+    ≡ Some ((codes "d1", 0) ∷ [], 1 ∷ 20 ∷ 1 ∷ []) ∷ []
+unfolding same text_lt at put without ver_lt lists after known greatest is_outdated chosen is_space own_words is_seen judge act_step turns each_turn all_got alias_target resolve work_of call_step
+find_shows_its_space_alone = refl
+
 abbrev bad_page : Answer (Keyed Text)
 bad_page = Refused Refuse.BadPage
 

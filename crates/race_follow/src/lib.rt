@@ -1,11 +1,12 @@
-//! Whatever happens in a world, its journal conforms; and points in time keep their rows.
+//! Whatever happens in a world, its journal conforms; points in time keep their rows; and a refused request
+//! changes nothing.
 #![tactic(auto)]
 
 ghost use Rattle.std.specs.Prelude.{◌≡◌, ◌≢◌, ◌<◌, ◌+◌, ℕ, List, Some};
 ghost use Rattle.base_model.specs.Keyed.{Text, at};
-ghost use Rattle.race_model.specs.Stores.{Rows, Index, Store, Request, Select, pit_at, meant, serve};
+ghost use Rattle.race_model.specs.Stores.{Rows, Index, Store, Request, Refusal, Select, pit_at, meant, serve};
 ghost use Rattle.race_model.specs.Stores.Request.{OpenPit, ReadPit, ClosePit};
-ghost use Rattle.race_model.specs.Stores.Reply.{Pit, Selected};
+ghost use Rattle.race_model.specs.Stores.Reply.{Pit, Selected, Refused};
 ghost use Rattle.race_model.specs.Worlds.{Event};
 ghost use Rattle.race_model.specs.Openings.{Scenario, IsJournal, world_after};
 
@@ -28,4 +29,9 @@ pub fn points_in_time_stay<D, Q>()
         pit_at pit (serve select store ask).0.pits ≡ pit_at pit store.pits }
     ensures read { (select : Select D Q) (store : Store D) (pit : ℕ) (query : Q) (rows : Rows D) → pit_at pit store.pits ≡ Some rows →
         serve select store (ReadPit pit query) ≡ (store, Selected (select.total query rows) (select.rows query rows)) }
+{}
+
+/// A request that is refused changes nothing: so a list of alias actions is done whole or not at all.
+pub fn refused_requests_change_nothing<D, Q>()
+    ensures { (select : Select D Q) (store : Store D) (ask : Request D Q) (why : Refusal) → (serve select store ask).1 ≡ Refused why → (serve select store ask).0 ≡ store }
 {}
