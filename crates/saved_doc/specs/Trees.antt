@@ -1,13 +1,11 @@
 -- Trees that stand for parts of a document, and how the logic stores a document.
-use Rattle.std.specs.Prelude.{Bool, true, false, ◌&&◌, List, Option, refl}
+use Rattle.std.specs.Prelude.{Bool, true, false, List, Option, refl}
 use Rattle.std.specs.Coded.{Coded, code_by, coded×, coded_ℕ, coded_list, coded_option}
 use Rattle.base_model.specs.Keyed.{Text}
 use Rattle.document_model.specs.Documents.{Doc}
-use Rattle.document_model.specs.Names.{is_type_name}
 use Rattle.document_model.specs.declared.reference.Ref.{Ref}
 use Rattle.document_model.specs.contracts.reference.Ref as reference
 use Rattle.so_js.specs.Code.{js_code}
-use Rattle.so_js.specs.Tree.{is_sound}
 use Rattle.so_js.specs.declared.js.Js.{Js, out-Js}
 use Rattle.so_js.specs.declared.js.Js.TheOpen.{Js-F}
 use Rattle.version_token.specs.declared.Ver.{Ver}
@@ -20,10 +18,6 @@ is_object_at _ = false
 -- an object
 abbrev pub is_object : Js → Bool
 is_object js = is_object_at (out-Js js)
-
--- what each document is: of a type with a type name, with sound attributes that are an object
-abbrev pub is_document : Doc Js → Bool
-is_document doc = is_type_name doc.type_name && is_sound doc.attributes && is_object doc.attributes
 
 abbrev Parts : Type 0
 Parts = Text × (Js × (List Ref × (Option Text × (Option (List Text) × (Option Ver × (Option Ver × (Option Text × Option Text)))))))

@@ -12,7 +12,7 @@ mod writing;
 pub use doc::{Doc, Row};
 pub use document_model::Ref;
 pub use error::DocError;
-pub use reading::{from_js, from_js_ref};
+pub use reading::{from_js, from_owned_js};
 pub use shared::SharedDoc;
 pub use visibility::visible;
 pub use writing::to_js;

@@ -21,14 +21,30 @@ use space_scope::SpaceId;
 use std::alloc::Global;
 use version_token::Ver;
 
-/// The document that the tree stands for. Its attributes are moved, not copied.
+/// The document that the tree stands for.
 ///
 /// The members are looked at in this order, and the first fault is answered: `type`, the one named
 /// as the type, `references`, `namespace`, `namespaces`, `typeMigrationVersion`,
 /// `migrationVersion`, `coreMigrationVersion`, `updated_at`, `originId`. The faults are
 /// `MissingField`; `WrongKind`, also where the tree is no object; `BadVersion`; `BadSpace`; and last
 /// `UnknownField` where there is another member. `Memory` may come at any place.
-pub fn from_js(alloc: Global, js: Js) -> Result<Doc, DocError>
+pub fn from_js(alloc: Global, js: &Js) -> Result<Doc, DocError>
+    requires { is_sound js.now ≡ true }
+    ensures exact { Gives result (doc_in js.now) }
+    ensures stored { IfOk result (λ doc. is_stored doc ≡ true) }
+{
+    let beside = read_beside(alloc, js)?;
+    match member(js, beside.type_name.as_str()) {
+        Some(attributes) => {
+            let attributes = attributes.clone()?;
+            Ok(beside.with(attributes))
+        }
+        None => Err(DocError::MissingField),
+    }
+}
+
+/// As `from_js`, with the attributes moved and not copied.
+pub fn from_owned_js(alloc: Global, js: Js) -> Result<Doc, DocError>
     requires { is_sound js ≡ true }
     ensures exact { Gives result (doc_in js) }
     ensures stored { IfOk result (λ doc. is_stored doc ≡ true) }
@@ -38,16 +54,6 @@ pub fn from_js(alloc: Global, js: Js) -> Result<Doc, DocError>
         Some(attributes) => Ok(beside.with(attributes)),
         None => Err(DocError::MissingField),
     }
-}
-
-/// As `from_js`, with a copy of the attributes.
-pub fn from_js_ref(alloc: Global, js: &Js) -> Result<Doc, DocError>
-    requires { is_sound js.now ≡ true }
-    ensures exact { Gives result (doc_in js.now) }
-    ensures stored { IfOk result (λ doc. is_stored doc ≡ true) }
-{
-    let js = js.clone()?;
-    from_js(alloc, js)
 }
 
 /// A document without its attributes.
