@@ -1,0 +1,7 @@
+use Rattle.std.proofs.Common.{rules, arith}
+use Rattle.std.proofs.lemmas.Grind.{common_steps}
+use Rattle.saved_doc.proofs.StoredLaws.{doc_in-stored}
+use Rattle.saved_doc.proofs.reading.from_owned_js.Goals as goal
+
+pub returns-in-Some-clause-stored : goal.returns-in-Some-clause-stored
+returns-in-Some-clause-stored c = doc_in-stored c.args.js c.with.result (first_of (search rules, grind (arith, common_steps)))

@@ -1,0 +1,5 @@
+pub mod Trees
+pub mod Reading
+pub mod Writing
+pub mod Stored
+pub mod Beside
