@@ -1,5 +1,5 @@
 -- Migrating one document: one fold over the versions above its stamp.
-use Rattle.std.specs.Prelude.{Bool, false, List, [], ◌∷◌, map, codes, Option, Some, None, if◌then◌else◌}
+use Rattle.std.specs.Prelude.{Bool, false, List, [], ◌∷◌, ◌++◌, map, codes, Option, Some, None, if◌then◌else◌}
 use Rattle.base_model.specs.Keyed.{Text, Keyed}
 use Rattle.base_model.specs.Outcomes.{Outcome}
 use Rattle.base_model.specs.Outcomes.Outcome.{Removed, Unknown, TooNew, Corrupt, Outputs}
@@ -21,6 +21,11 @@ pub record Transforms (A O : Type 0) : Type 0 where
 abbrev pub all_ops : {A O : Type 0} → Transforms A O → List O → A → A
 all_ops w [] a = a
 all_ops w (op ∷ ops) a = all_ops w ops (w.apply op a)
+
+-- the operations of the versions above a stamp, one after another
+abbrev pub ops_above : {O : Type 0} → Option Ver → List (Ver × List O) → List O
+ops_above stamp [] = []
+ops_above stamp (s ∷ steps) = if below stamp s.0 then s.1 ++ ops_above stamp steps else ops_above stamp steps
 
 -- one step of a type: its id changes, or operations
 pub data Step (O : Type 0) : Type 0 where

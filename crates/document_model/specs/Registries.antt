@@ -4,7 +4,7 @@ use Rattle.base_model.specs.Keyed.{Text, same, Keyed, at}
 use Rattle.space_scope.specs.declared.kind.Kind.{Kind}
 use Rattle.space_scope.specs.declared.kind.Kind.TheVariants.{Single, Multiple, MultipleIsolated, Agnostic}
 use Rattle.version_token.specs.declared.Ver.{Ver}
-use Rattle.document_model.specs.Documents.{ver_lt, below, Doc, front, after}
+use Rattle.document_model.specs.Documents.{ver_lt, below, lists, Doc, front, after}
 
 -- what a registry knows of a type, with operations of type O
 pub record Known (O : Type 0) : Type 0 where
@@ -27,6 +27,16 @@ alias_type = codes "legacy-url-alias"
 -- what is known of a type; the type of alias documents is always known
 unfoldable pub known : {O : Type 0} → Registry O → Text → Option (Known O)
 known reg name = if same name alias_type then Some (record { kind = Agnostic; shareable_at = None; steps = [] }) else at name reg.types
+
+-- the names of types
+abbrev pub type_names : {O : Type 0} → Keyed (Known O) → List Text
+type_names [] = []
+type_names (t ∷ ts) = t.0 ∷ type_names ts
+
+-- no type's name stands twice, nor that of alias documents
+unfoldable pub names_apart : {O : Type 0} → Keyed (Known O) → Bool
+names_apart [] = true
+names_apart (t ∷ ts) = not (same t.0 alias_type) && not (lists t.0 (type_names ts)) && names_apart ts
 
 -- the greater of two versions
 abbrev pub greater : Option Ver → Ver → Ver

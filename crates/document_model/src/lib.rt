@@ -3,6 +3,8 @@
 
 mod names;
 mod reference;
+mod versions;
 
 pub use names::{is_document_member, is_type_name};
 pub use reference::Ref;
+pub use versions::{is_below, is_missing_or_below};
