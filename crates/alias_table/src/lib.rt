@@ -5,9 +5,11 @@ mod action;
 mod error;
 mod lists;
 mod pair;
-mod plan;
+mod planning;
+#[cfg(test)]
+mod tests;
 
 pub use action::Action;
 pub use error::PlanError;
 pub use pair::Pair;
-pub use plan::{Planned, plan};
+pub use planning::{Planned, plan};

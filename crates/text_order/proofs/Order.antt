@@ -1,5 +1,5 @@
 -- The order of the definitions and that of the library are one.
-use Rattle.std.proofs.Common.{◌≡◌, ℕ, List, [], ◌∷◌, true, false, refl, arith, Ordering}
+use Rattle.std.proofs.Common.{◌≡◌, refl, arith}
 use Rattle.std.proofs.lemmas.Cmp.{same_from_slice_cmp}
 use Rattle.std.proofs.lemmas.Bool.Decides.{nat_tests}
 use Rattle.std.specs.Ordering.{nat_cmp, is_lt}

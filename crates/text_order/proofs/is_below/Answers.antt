@@ -1,4 +1,4 @@
-use Rattle.std.proofs.Common.{◌≡◌, sym, ap, ◌∙◌}
+use Rattle.std.proofs.Common.{◌∙◌}
 use Rattle.text_order.proofs.Order.{below_by_cmp}
 use Rattle.text_order.proofs.is_below.Goals as goal
 
