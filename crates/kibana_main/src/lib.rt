@@ -23,6 +23,3 @@ pub use registry::{Registry, read_registry};
 pub use scenario::{Placed, Scenario, ScenarioError, read_scenario};
 pub use status::Status;
 pub use store::{Answer, Refuse, Row, Store};
-
-#[cfg(test)]
-mod tests;

@@ -32,3 +32,6 @@ fn words(rt: &(impl Env + AllocGlobal)) -> io::Result<List<Text>> {
     }
     Ok(words)
 }
+
+#[cfg(test)]
+mod tests;

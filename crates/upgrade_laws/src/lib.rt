@@ -5,10 +5,10 @@
 #![tactic(auto)]
 
 ghost use Rattle.std.specs.Prelude.{◌≡◌, ◌≢◌, ℕ, List, [], ◌∷◌, ◌++◌, map, Option, Some};
-ghost use Rattle.base_model.specs.Keyed.{Text, at};
+ghost use Rattle.base_model.specs.Keyed.{Text};
 ghost use Rattle.race_model.specs.Stores.{Rows};
 ghost use Rattle.race_model.specs.Machines.{Cause, End, Machine, moved, raws_where, is_unknown};
-ghost use Rattle.race_model.specs.Machines.State.{Init, Ended};
+ghost use Rattle.race_model.specs.Machines.State.{Ended};
 ghost use Rattle.race_model.specs.Machines.End.{Fatal};
 ghost use Rattle.race_model.specs.Generations.{Generations};
 ghost use Rattle.race_model.specs.Worlds.{Entry, Event, Node, nth};
@@ -16,14 +16,14 @@ ghost use Rattle.race_model.specs.Worlds.Actor.{Instance};
 ghost use Rattle.race_model.specs.Worlds.How.{Heard};
 ghost use Rattle.race_model.specs.Journals.{Past, state_of, heard_of};
 ghost use Rattle.race_model.specs.Runs.{IsRun};
-ghost use Rattle.race_model.specs.Openings.{IsEmptyOpening, opening_generations, found_at_opening, IsJournal, world_after, trace_after, facts_of_journal, facts_since};
+ghost use Rattle.race_model.specs.Openings.{IsEmptyOpening, opening_generations, found_at_opening, IsJournal, world_after, trace_after, facts_of_journal};
 ghost use Rattle.race_facts.specs.Raced.{Raced};
 ghost use Rattle.race_history.specs.Generated.{AreShown, HasFact};
 ghost use Rattle.race_bound.specs.Short.{AllShort};
 ghost use Rattle.race_claims.specs.Shown.{IsShown};
 ghost use Rattle.race_claims.specs.OneVersion.{IsByDocuments};
 ghost use Rattle.race_claims.specs.Unfailing.{HasFailed};
-ghost use Rattle.race_claims.specs.Unhindered.{IsOwn, IsUnhindered, GoesWell};
+ghost use Rattle.race_claims.specs.Unhindered.{GoesWell};
 ghost use Rattle.document_model.specs.Documents.{Doc};
 ghost use Rattle.document_model.specs.Migrations.{outcome};
 ghost use Rattle.query_model.specs.Queries.{Query, select};
@@ -32,6 +32,7 @@ ghost use Rattle.call_model.specs.History.{IsLegal};
 ghost use Rattle.call_model.specs.Upgrades.{Named, TargetSet, Rollout, settings_of, scenario_of, named_version};
 ghost use Rattle.call_model.specs.Upgrades.Start.{Empty};
 ghost use Rattle.upgrade_laws.specs.Premises.{HasProductNames, NamesApart, IsRollout, IsOfOneSet, pages_by};
+ghost use Rattle.upgrade_laws.specs.Unhindered.{named_after, BeginsUnhindered};
 
 /// Every journal of a rollout that conforms is legal: its facts, by playing the aliases and by the plans
 /// of its clients, are a run of one table per version; each migration is a single step, which appends
@@ -91,23 +92,19 @@ pub fn starts_are_short<A, O, F>()
 /// indices of its names have that source, no unknown, corrupt or newer document stands in it, and it is
 /// clean once it is blocked.
 pub fn unhindered_starts_end_as_done<A, O, F>()
-    ensures { (r : Rollout A O F) (before after : List (Entry (Doc A) (Query F))) (first : Entry (Doc A) (Query F)) (i tag : ℕ) (start past : Past (Doc A) (Query F)) →
-        IsRollout r → IsJournal (scenario_of r) (before ++ first ∷ after) →
-        IsOwn i tag first → nth (trace_after (scenario_of r) before).pasts i ≡ Some start → state_of tag start.runs ≡ Init →
-        IsUnhindered (scenario_of r).race i tag ((scenario_of r).race.settings i) (facts_since (scenario_of r) (named_version r.names) before (first ∷ after)) (trace_after (scenario_of r) before) (first ∷ after) (at r.names.current (trace_after (scenario_of r) before).store.aliases) →
+    ensures { (r : Rollout A O F) (before after : List (Entry (Doc A) (Query F))) (first : Entry (Doc A) (Query F)) (i tag : ℕ) (past : Past (Doc A) (Query F)) →
+        IsRollout r → IsJournal (scenario_of r) (before ++ first ∷ after) → BeginsUnhindered r before after first i tag →
         nth (trace_after (scenario_of r) (before ++ first ∷ after)).pasts i ≡ Some past →
-        GoesWell (pages_by (r.set_of i).batch) ((scenario_of r).race.settings i) (trace_after (scenario_of r) (before ++ first ∷ after)).store (at r.names.current (trace_after (scenario_of r) before).store.aliases) (heard_of tag past.runs) (state_of tag past.runs) }
+        GoesWell (pages_by (r.set_of i).batch) ((scenario_of r).race.settings i) (trace_after (scenario_of r) (before ++ first ∷ after)).store (named_after r before) (heard_of tag past.runs) (state_of tag past.runs) }
 {}
 
 /// The same of a world, for the start of an instance none of whose sends failed: its machine is done with
 /// its version's one target, or has a further request within the bound.
 pub fn unhindered_machines_end_as_done<A, O, F>()
-    ensures { (r : Rollout A O F) (events : List Event) (before after : List (Entry (Doc A) (Query F))) (first : Entry (Doc A) (Query F)) (i : ℕ) (start : Past (Doc A) (Query F)) (node : Node (Doc A) (Query F)) (m : Machine (Doc A)) →
+    ensures { (r : Rollout A O F) (events : List Event) (before after : List (Entry (Doc A) (Query F))) (first : Entry (Doc A) (Query F)) (i : ℕ) (node : Node (Doc A) (Query F)) (m : Machine (Doc A)) →
         IsRollout r → nth (world_after (scenario_of r) events).nodes i ≡ Some node → node.machine ≡ Some m → (HasFailed node.starts node.sent → ⊥) →
-        (world_after (scenario_of r) events).journal ≡ before ++ first ∷ after →
-        IsOwn i node.starts first → nth (trace_after (scenario_of r) before).pasts i ≡ Some start → state_of node.starts start.runs ≡ Init →
-        IsUnhindered (scenario_of r).race i node.starts ((scenario_of r).race.settings i) (facts_since (scenario_of r) (named_version r.names) before (first ∷ after)) (trace_after (scenario_of r) before) (first ∷ after) (at r.names.current (trace_after (scenario_of r) before).store.aliases) →
-        (heard : ℕ) × GoesWell (pages_by (r.set_of i).batch) ((scenario_of r).race.settings i) (world_after (scenario_of r) events).store (at r.names.current (trace_after (scenario_of r) before).store.aliases) heard m.state }
+        (world_after (scenario_of r) events).journal ≡ before ++ first ∷ after → BeginsUnhindered r before after first i node.starts →
+        (heard : ℕ) × GoesWell (pages_by (r.set_of i).batch) ((scenario_of r).race.settings i) (world_after (scenario_of r) events).store (named_after r before) heard m.state }
 {}
 
 /// Where every instance is of one version, above the opening's, a start fails by documents alone: it ends

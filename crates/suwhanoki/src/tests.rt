@@ -1,50 +1,53 @@
-use super::*;
+//! Runs of `plain` over sources and sinks in memory: worked inputs with what they write, one
+//! refusal of each kind, and a failing call of the source and of the sink.
+use kibana_main::plain;
 use plain_data::{List, Text};
-use std::alloc::Global;
+use std::alloc::{AllocError, Global};
 use std::test::Fail;
 use wire_io::{MemSink, MemSource};
 
-// a registry, a create of its type, and a get of the object
-const REGISTRY: &str =
-    r#"{"line":"registry","version":"7.12.0","types":[{"name":"dashboard","kind":"single"}]}
-"#;
+// No call has this number.
+const NEVER: u64 = u64::MAX;
 
-const CREATE: &str =
-    r#"{"line":"call","call":{"do":"create","type":"dashboard","id":"d1","attributes":{"title":"Sales"}}}
-"#;
-
-const GET: &str = r#"{"line":"call","call":{"do":"get","type":"dashboard","id":"d1"}}"#;
-
-/// The number of a run's status, and the sink with what it wrote. Reads give 16 bytes at most.
+/// Runs the command of this one word, and answers the number of the status and the sink. Reads give
+/// 16 bytes at most.
 fn run(
     alloc: Global,
     word: &str,
-    input: &[u8],
+    input: &str,
     failing_read: u64,
     failing_write: u64,
-) -> Result<(u8, MemSink), Fail> {
+) -> Result<(u8, MemSink), AllocError> {
     let mut words = List::new(alloc);
     words.push(Text::from_str(alloc, word)?)?;
-    let bytes = List::from_slice(alloc, input)?;
+    let bytes = List::from_slice(alloc, input.as_bytes())?;
     let mut source = MemSource::new(bytes, 16, List::from_slice(alloc, &[failing_read])?);
     let mut sink = MemSink::new(alloc, List::from_slice(alloc, &[failing_write])?);
     let status = plain(alloc, &words, &mut source, &mut sink);
     Ok((status.number(), sink))
 }
 
-// No call has this number.
-const NEVER: u64 = u64::MAX;
+const REGISTRY: &str =
+    r#"{"line":"registry","version":"7.12.0","types":[{"name":"dashboard","kind":"single"}]}
+"#;
 
-// calls after a registry, an empty line, a create, a line of a carriage return alone, and a get
-const CALLS: &str =
-    r#"{"line":"call","call":{"do":"create","type":"dashboard","id":"d1","attributes":{}}}
+// calls after a registry and an empty line, with a line of a carriage return alone among them
+const CALLS: &str = concat!(
+    r#"{"line":"registry","version":"7.12.0","types":[{"name":"dashboard","kind":"single"}]}
+
+{"line":"call","call":{"do":"create","type":"dashboard","id":"d1","attributes":{"title":"Sales"}}}
+"#,
+    "\r\n",
+    r#"{"line":"call","call":{"do":"get","type":"dashboard","id":"d1"}}
+{"line":"call","call":{"do":"create","type":"dashboard","id":"d1","attributes":{}}}
 {"line":"call","call":{"do":"get","type":"dashboard","id":"d9"}}
 {"line":"call","call":{"do":"get","type":"map","id":""}}
 {"line":"call","call":{"do":"get","type":"legacy-url-alias","id":"d1"}}
 {"line":"call","call":{"do":"get","type":"dashboard","id":""}}
 {"line":"call","call":{"do":"create","type":"dashboard","id":"","attributes":{}}}
 
-{"line":"call","call":{"do":"create","type":"dashboard","id":"d2","attributes":{"z":[1],"n":null}}}"#;
+{"line":"call","call":{"do":"create","type":"dashboard","id":"d2","attributes":{"z":[1],"n":null}}}"#
+);
 
 const ANSWERS: &str =
     r#"{"answer":{"ok":{"attributes":{"title":"Sales"},"coreMigrationVersion":"7.12.0","id":"d1","namespaces":["default"],"references":[],"type":"dashboard","version":"WzAsMV0="}},"at":3,"line":"answer"}
@@ -58,19 +61,40 @@ const ANSWERS: &str =
 {"answer":{"ok":{"attributes":{"n":null,"z":[1]},"coreMigrationVersion":"7.12.0","id":"d2","namespaces":["default"],"references":[],"type":"dashboard","version":"WzEsMV0="}},"at":13,"line":"answer"}
 "#;
 
+/// Whether a run over the calls ends with this status and writes this text.
+fn ends(
+    alloc: Global,
+    word: &str,
+    failing_read: u64,
+    failing_write: u64,
+    status: u8,
+    text: &str,
+) -> Result<bool, AllocError> {
+    let (number, sink) = run(alloc, word, CALLS, failing_read, failing_write)?;
+    Ok(number == status && sink.held() == text.as_bytes())
+}
+
+/// Whether a run over the calls meets a fault, and writes nothing, whichever of its first reads
+/// fails.
+fn meets_each_fault(alloc: Global, reads: u64) -> Result<bool, AllocError> {
+    for failing in 0..reads {
+        if !ends(alloc, "apply", failing, NEVER, 4, "")? {
+            return Ok(false);
+        }
+    }
+    Ok(true)
+}
+
 #[test]
 fn answers_calls(rt: HostRuntime) -> Result<(), Fail> {
     let alloc = rt.alloc();
-    let input = format!(in alloc; "{REGISTRY}\n{CREATE}\r\n{GET}\n{CALLS}")?;
-    let (status, sink) = run(alloc, "apply", input.as_bytes(), NEVER, NEVER)?;
-    assert_eq!(rt; status, 0);
-    assert_eq!(rt; sink.held(), ANSWERS.as_bytes());
-    let (status, sink) = run(alloc, "apply", b"", NEVER, NEVER)?;
-    assert_eq!(rt; status, 0);
-    assert_eq!(rt; sink.held().len(), 0);
-    let (status, sink) = run(alloc, "applY", input.as_bytes(), NEVER, NEVER)?;
-    assert_eq!(rt; status, 2);
-    assert_eq!(rt; sink.held(), b"{\"fault\":\"Usage\"}\n".as_slice());
+    assert!(rt; ends(alloc, "apply", NEVER, NEVER, 0, ANSWERS)?);
+    assert!(rt; ends(alloc, "applY", NEVER, NEVER, 2, "{\"fault\":\"Usage\"}\n")?);
+    assert!(rt; ends(alloc, "apply", NEVER, 0, 5, "")?);
+    // the last line ends at the end of the input, which is read once more
+    let reads = CALLS.len() as u64 / 16 + 3;
+    assert!(rt; meets_each_fault(alloc, reads)?);
+    assert!(rt; ends(alloc, "apply", reads, NEVER, 0, ANSWERS)?);
     Ok(())
 }
 
@@ -115,47 +139,27 @@ NotBuilt E {"line":"registry","version":"7.12.0","types":[{"name":"a","kind":"ag
 UnknownField E {"line":"registry","version":"7.12.0","types":[{"name":"a","kind":"single","x":1}],"y":1}
 NotBuilt E {"line":"registry","version":"7.12.0","types":[],"removed":1,"y":1}"#;
 
-#[test]
-fn refuses_lines(rt: HostRuntime) -> Result<(), Fail> {
-    let alloc = rt.alloc();
-    for case in REFUSED.split('\n') {
-        let (kind, rest) = case.split_once(' ').unwrap_or(("", ""));
-        let (first, second) = rest.split_once(' ').unwrap_or(("", ""));
-        let first = if first == "R" { REGISTRY } else { "\n" };
-        let input = format!(in alloc; "{first}{second}\n[")?;
-        let want = format!(in alloc; "{{\"at\":2,\"fault\":\"BadInput\",\"kind\":\"{kind}\"}}\n")?;
-        let (status, sink) = run(alloc, "apply", input.as_bytes(), NEVER, NEVER)?;
-        assert_eq!(rt; status, 3);
-        assert_eq!(rt; sink.held(), want.as_bytes(), "{case}");
-    }
-    Ok(())
+/// Whether the input of a case is refused at its second line, and as its first word says. A further
+/// line, which is no JSON, comes too late.
+fn is_refused(alloc: Global, case: &str) -> Result<bool, AllocError> {
+    let (kind, lines) = case.split_once(' ').unwrap_or(("", ""));
+    let (first, second) = lines.split_once(' ').unwrap_or(("", ""));
+    let first = if first == "R" { REGISTRY } else { "\n" };
+    let input = [first, second, "\n["].concat(alloc)?;
+    let want = [
+        "{\"at\":2,\"fault\":\"BadInput\",\"kind\":\"",
+        kind,
+        "\"}\n",
+    ]
+    .concat(alloc)?;
+    let (status, sink) = run(alloc, "apply", &input, NEVER, NEVER)?;
+    Ok(status == 3 && sink.held() == want.as_bytes())
 }
 
 #[test]
-fn meets_cuts_and_faults(rt: HostRuntime) -> Result<(), Fail> {
-    let alloc = rt.alloc();
-    let whole = format!(in alloc; "{REGISTRY}{GET}")?;
-    for cut in 1..GET.len() {
-        let input = whole.as_bytes().get(..REGISTRY.len() + cut).unwrap_or(b"");
-        let (status, sink) = run(alloc, "apply", input, NEVER, NEVER)?;
-        assert_eq!(rt; status, 3);
-        assert_eq!(rt;
-            sink.held(),
-            b"{\"at\":2,\"fault\":\"BadInput\",\"kind\":\"BadJson\"}\n".as_slice()
-        );
+fn refuses_lines(rt: HostRuntime) -> Result<(), Fail> {
+    for case in REFUSED.split('\n') {
+        assert!(rt; is_refused(rt.alloc(), case)?, "{case}");
     }
-    let input = format!(in alloc; "{REGISTRY}{CREATE}{GET}")?;
-    // the last line ends at the end of the input, which is read once more
-    let reads = input.len() as u64 / 16 + 3;
-    for failing in 0..reads {
-        let (status, sink) = run(alloc, "apply", input.as_bytes(), failing, NEVER)?;
-        assert_eq!(rt; status, 4);
-        assert_eq!(rt; sink.held().len(), 0);
-    }
-    let (status, _) = run(alloc, "apply", input.as_bytes(), reads, NEVER)?;
-    assert_eq!(rt; status, 0);
-    let (status, sink) = run(alloc, "apply", input.as_bytes(), NEVER, 0)?;
-    assert_eq!(rt; status, 5);
-    assert_eq!(rt; sink.held().len(), 0);
     Ok(())
 }
