@@ -1,14 +1,14 @@
 -- What a race of migrations is of, where documents, queries, clients and registries are as they are.
 use Rattle.std.specs.Prelude.{ℕ, Bool, true, false, not, ◌&&◌, List, [], ◌∷◌, ◌++◌, Option, Some, None}
-use Rattle.base_model.specs.Keyed.{Text, Keyed, same}
+use Rattle.base_model.specs.Keyed.{Text, Keyed}
 use Rattle.race_model.specs.Machines.{Settings}
 use Rattle.race_model.specs.Stores.{Table}
 use Rattle.race_model.specs.Worlds.{Race}
 use Rattle.race_model.specs.Openings.{Opening, Scenario}
 use Rattle.race_model.specs.Openings.Opening.{NoGeneration, OneGeneration}
 use Rattle.version_token.specs.declared.Ver.{Ver}
-use Rattle.document_model.specs.Documents.{ver_lt, below, Doc, lists}
-use Rattle.document_model.specs.Registries.{Known, Registry, alias_type, known, latest}
+use Rattle.document_model.specs.Documents.{ver_lt, below, Doc}
+use Rattle.document_model.specs.Registries.{Known, Registry, alias_type, known, latest, type_names}
 use Rattle.document_model.specs.Migrations.{outcome}
 use Rattle.query_model.specs.declared.parts.TypeVer.{TypeVer}
 use Rattle.query_model.specs.declared.parts.Sort.TheVariants.{Raw}
@@ -37,11 +37,6 @@ pub record Named : Type 0 where
   pub version_in : Text → Option Ver
   -- a version as a text
   pub text : Ver → Text
-
--- the names of types
-abbrev pub type_names : {O : Type 0} → Keyed (Known O) → List Text
-type_names [] = []
-type_names (t ∷ ts) = t.0 ∷ type_names ts
 
 -- a type with its latest version before the others
 abbrev pub with_latest : Text → Option Ver → List TypeVer → List TypeVer
@@ -155,8 +150,3 @@ text_of text (Some v) = Some (text v)
 -- the version in an index's name, as a text
 abbrev pub named_version : Named → Text → Option Text
 named_version names index = text_of names.text (names.version_in index)
-
--- no type's name stands twice, nor that of alias documents
-unfoldable pub names_apart : {O : Type 0} → Keyed (Known O) → Bool
-names_apart [] = true
-names_apart (t ∷ ts) = not (same t.0 alias_type) && not (lists t.0 (type_names ts)) && names_apart ts

@@ -12,13 +12,14 @@ use Rattle.race_model.specs.Openings.{world_after}
 use Rattle.race_follow.proofs.Laws.{worlds_conform}
 use Rattle.space_scope.specs.declared.kind.Kind.TheVariants.{Single}
 use Rattle.document_model.specs.Documents.{ver_lt, Doc, lists}
+use Rattle.document_model.specs.Registries.{names_apart}
 use Rattle.version_token.specs.declared.Ver.{Ver}
 use Rattle.version_token.specs.Version.{IsVer}
 use Rattle.raw_id.specs.IndexNames.{version_alias}
 use Rattle.call_model.specs.Words.{Words}
 use Rattle.call_model.specs.Scripts.{Script}
 use Rattle.call_model.specs.History.{IsLegal}
-use Rattle.call_model.specs.Upgrades.{TargetSet, Start, Rollout, scenario_of, named_version, names_apart}
+use Rattle.call_model.specs.Upgrades.{TargetSet, Start, Rollout, scenario_of, named_version}
 use Rattle.call_model.specs.Upgrades.Start.{Empty, Holding}
 use Rattle.call_laws.specs.Meanings.{Numbered}
 use Rattle.upgrade_laws.specs.Premises.{IsRegistry, product_names, HasProductNames, StartsWell, AllBegin, IsRollout, IsOfOneSet}

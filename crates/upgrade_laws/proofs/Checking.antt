@@ -10,11 +10,11 @@ use Rattle.race_model.specs.Sorted.{Each}
 use Rattle.race_claims.specs.Unhindered.{FindsUnknown}
 use Rattle.space_scope.specs.declared.kind.Kind.TheVariants.{Agnostic}
 use Rattle.document_model.specs.Documents.{Doc, lists}
-use Rattle.document_model.specs.Registries.{Known, Registry, alias_type, known, latest, too_new, fits}
+use Rattle.document_model.specs.Registries.{Known, Registry, alias_type, known, latest, too_new, fits, type_names}
 use Rattle.document_model.specs.Migrations.{Transforms, outputs, outcome_known, outcome}
 use Rattle.query_model.specs.Queries.{Holds, selects, chosen, select}
 use Rattle.call_model.specs.Words.{Words}
-use Rattle.call_model.specs.Upgrades.{Named, TargetSet, type_names, plain_query, settings_of}
+use Rattle.call_model.specs.Upgrades.{Named, TargetSet, plain_query, settings_of}
 
 lists_append : (a : Text) (xs ys : List Text) → lists a (xs ++ ys) ≡ (lists a xs || lists a ys)
 unfolding lists

@@ -3,8 +3,7 @@ use Rattle.std.proofs.Common.{◌≡◌, Bool, true, false, ◌&&◌, not, Some,
 use Rattle.base_model.specs.Keyed.{Text, Keyed, same, at}
 use Rattle.race_tables.proofs.Keys.{same_false, same_refl, apart_from_false}
 use Rattle.document_model.specs.Documents.{lists}
-use Rattle.document_model.specs.Registries.{Known, Registry, alias_type, known}
-use Rattle.call_model.specs.Upgrades.{type_names, names_apart}
+use Rattle.document_model.specs.Registries.{Known, Registry, alias_type, known, type_names, names_apart}
 use Rattle.upgrade_laws.specs.Premises.{IsRegistry}
 use Rattle.upgrade_laws.proofs.Selecting.{AllListed}
 

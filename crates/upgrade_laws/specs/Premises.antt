@@ -6,11 +6,11 @@ use Rattle.race_model.specs.Journals.{Has}
 use Rattle.version_token.specs.declared.Ver.{Ver}
 use Rattle.version_token.specs.Version.{ver_text, IsVer}
 use Rattle.document_model.specs.Documents.{ver_lt}
-use Rattle.document_model.specs.Registries.{Registry}
+use Rattle.document_model.specs.Registries.{Registry, names_apart}
 use Rattle.raw_id.specs.IndexNames.{current_alias, version_alias, target, temp, version_in}
 use Rattle.call_model.specs.Words.{Words}
 use Rattle.call_model.specs.Scripts.{Script}
-use Rattle.call_model.specs.Upgrades.{Named, TargetSet, Start, Rollout, names_apart}
+use Rattle.call_model.specs.Upgrades.{Named, TargetSet, Start, Rollout}
 use Rattle.call_model.specs.Upgrades.Start.{Empty, Holding}
 use Rattle.call_laws.specs.Meanings.{Numbered}
 
