@@ -1,0 +1,12 @@
+pub mod Order
+pub mod Split
+pub mod Places
+pub mod Tables
+pub mod Puts
+pub mod Live
+pub mod Flank
+pub mod PageLists
+pub mod PageChanges
+pub mod Readers
+pub mod Cursor
+pub mod Laws

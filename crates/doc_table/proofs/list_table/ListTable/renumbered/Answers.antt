@@ -1,0 +1,20 @@
+use Rattle.std.proofs.Common.{◌+◌, ◌++◌, ◌∷◌, [], List, length, sym, ◌∙◌, ap, subst, arith}
+use Rattle.std.proofs.lemmas.List.{take_all}
+use Rattle.saved_doc.specs.declared.doc.Row.{Row}
+use Rattle.doc_table.specs.Table.{IsTable, IsRising, counted_from}
+use Rattle.doc_table.proofs.Readers.{counted_more, renumbered_table}
+use Rattle.doc_table.proofs.list_table.ListTable.renumbered.Goals as goal
+
+pub loop-i-preserved : goal.loop-i-preserved
+loop-i-preserved c =
+    let x = c.index-rows-i.result in
+    let m = 0 + length c.loop-i.out.items in
+    let l = ap length c.loop-i.invariant in
+    c.in_ok-push_counted.ensures ∙ ap (λ (t : List Row). t ++ record x { seq = m } ∷ []) c.loop-i.invariant
+    ∙ sym (counted_more 0 c.loop-i.i c.as_slice-rows.result.now x m c.loop-i-test.true c.index-rows-i.is (omega (arith, l)))
+
+pub invariant_of-result : goal.invariant_of-result
+invariant_of-result c =
+    let rows = c.as_slice-rows.result.now in
+    let e = c.loop-i.invariant ∙ ap (counted_from 0) (take_all c.loop-i.i rows (omega arith)) in
+    subst (λ (t : List Row). IsTable (record { rows = t; next = length rows })) (sym e) (renumbered_table (record { rows = rows; next = 0 }) (subst IsRising (sym c.as_slice-rows.ensures.value) c.self.invariant.rising))
