@@ -3,7 +3,7 @@ use Rattle.std.proofs.Common.{◌≡◌, ℕ, true, false, cond, List, [], ◌�
 use Rattle.std.specs.Ordering.{is_lt, is_eq, is_gt}
 use Rattle.std.proofs.lemmas.List.Elements.{filter-append}
 use Rattle.saved_doc.specs.declared.doc.Row.{Row}
-use Rattle.doc_table.specs.Table.{Each, order, found, below, above, with_row}
+use Rattle.doc_table.specs.RowLists.{Each, order, found, below, above, with_row}
 use Rattle.doc_table.specs.Place.{IsBelow, IsAbove}
 use Rattle.doc_table.proofs.Order.{each_weaker, filter_all, filter_none}
 use Rattle.doc_table.proofs.Split.{found-none}

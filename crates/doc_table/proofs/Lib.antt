@@ -1,7 +1,7 @@
 pub mod Order
 pub mod Split
 pub mod Places
-pub mod Tables
+pub mod Numbered
 pub mod Puts
 pub mod Live
 pub mod Flank
@@ -9,4 +9,5 @@ pub mod PageLists
 pub mod PageChanges
 pub mod Readers
 pub mod Cursor
-pub mod Laws
+pub mod Entries
+pub mod Cases

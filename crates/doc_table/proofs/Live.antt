@@ -8,7 +8,7 @@ use Rattle.std.proofs.lemmas.Nat.Bits.{bit_at_ones, bit_at-zero}
 use Rattle.std.proofs.lemmas.List.{take_more, take-append-drop, length-take-le, length-drop, drop_more, take_at, drop_at}
 use Rattle.std.proofs.lemmas.Option.{slice_get_cases}
 use Rattle.saved_doc.specs.declared.doc.Row.{Row}
-use Rattle.doc_table.specs.Table.{Each, Pairwise, found, below, above}
+use Rattle.doc_table.specs.RowLists.{Each, Pairwise, found, below, above}
 use Rattle.doc_table.specs.Place.{IsPlace, Splits, IsBelow, IsAt, IsAbove}
 use Rattle.doc_table.specs.Pages.{live_from}
 use Rattle.doc_table.proofs.Order.{each_append, each_front, each_back}

@@ -8,11 +8,11 @@ use Rattle.std.specs.declared.cmp.Ordering.TheVariants.{Less, Equal, Greater}
 use Rattle.std.specs.declared.cmp.Ordering.{Ordering}
 use Rattle.saved_doc.specs.declared.doc.Row.{Row}
 use Rattle.doc_table.specs.declared.page.SharedPage.{SharedPage}
-use Rattle.doc_table.specs.Table.{Each, IsRising, order, below, above, found, with_row}
+use Rattle.doc_table.specs.RowLists.{Each, IsRising, order, below, above, found, with_row}
 use Rattle.doc_table.specs.Place.{IsBelow, IsAbove}
 use Rattle.doc_table.specs.Pages.{page_rows, live_rows, live_from, all_rows, rows_of, IsSized, IsPages, IsPageOf}
 use Rattle.doc_table.proofs.Order.{each_append, each_front, each_back, pairwise_front, pairwise_back}
-use Rattle.doc_table.proofs.Tables.{with_rising}
+use Rattle.doc_table.proofs.Numbered.{with_rising}
 use Rattle.doc_table.proofs.Flank.{flank_found, flank_with, flank_without}
 use Rattle.doc_table.proofs.Live.{pairwise_live_middle, live_full, length-live}
 use Rattle.doc_table.proofs.PageLists.{flat_append, flat_split, each_live_rows, each_at}

@@ -6,7 +6,7 @@ use Rattle.std.proofs.lemmas.List.{take-append-drop, drop_more, set_split}
 use Rattle.std.specs.declared.cmp.Ordering.TheVariants.{Greater}
 use Rattle.saved_doc.specs.declared.doc.Row.{Row}
 use Rattle.doc_table.specs.declared.page.SharedPage.{SharedPage}
-use Rattle.doc_table.specs.Table.{Each, IsRising, order}
+use Rattle.doc_table.specs.RowLists.{Each, IsRising, order}
 use Rattle.doc_table.specs.Place.{IsBelow, IsAbove}
 use Rattle.doc_table.specs.Pages.{page_rows, live_rows, all_rows, rows_of, IsSized, IsPages, IsPageOf}
 use Rattle.doc_table.proofs.Order.{each_append, each_front, each_back}

@@ -6,7 +6,7 @@ use Rattle.std.specs.declared.cmp.Ordering.TheVariants.{Less, Equal, Greater}
 use Rattle.std.proofs.lemmas.List.{take-append-drop, drop_more, take_more, drop_all}
 use Rattle.std.proofs.lemmas.Option.{slice_get_read}
 use Rattle.saved_doc.specs.declared.doc.Row.{Row}
-use Rattle.doc_table.specs.Table.{Each, IsRising, order}
+use Rattle.doc_table.specs.RowLists.{Each, IsRising, order}
 use Rattle.doc_table.specs.Place.{IsBelow, IsAbove, IsPlace}
 use Rattle.std.specs.declared.cmp.Ordering.{Ordering}
 use Rattle.doc_table.proofs.Order.{each_weaker, each_append, pairwise_back, pairwise_across}

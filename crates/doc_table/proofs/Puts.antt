@@ -4,7 +4,7 @@ use Rattle.std.specs.Prelude.{slice_get}
 use Rattle.std.specs.List.{insert, remove}
 use Rattle.std.proofs.lemmas.List.{set_split, take-append-drop}
 use Rattle.saved_doc.specs.declared.doc.Row.{Row}
-use Rattle.doc_table.specs.Table.{below, above, found, with_row}
+use Rattle.doc_table.specs.RowLists.{below, above, found, with_row}
 use Rattle.doc_table.specs.Place.{IsPlace}
 use Rattle.doc_table.proofs.Split.{below-Splits, above-Splits, found-Splits}
 

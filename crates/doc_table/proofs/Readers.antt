@@ -6,7 +6,7 @@ use Rattle.std.proofs.lemmas.List.{take_all, take-append-le, take_more, length-t
 use Rattle.std.proofs.lemmas.List.Elements.{filter-append}
 use Rattle.std.specs.declared.cmp.Ordering.TheVariants.{Less}
 use Rattle.saved_doc.specs.declared.doc.Row.{Row}
-use Rattle.doc_table.specs.Table.{Table, IsTable, Each, IsRising, IsApart, order, above, rows_after, is_after, counted_from, renumbered}
+use Rattle.doc_table.specs.RowLists.{IsNumbered, Each, IsRising, IsApart, order, above, rows_after, is_after, counted_from}
 use Rattle.std.specs.Int.{bit_at}
 use Rattle.std.specs.Ordering.{is_gt}
 use Rattle.std.proofs.lemmas.Bool.{cases_eq, eqb-true, eqb-false, ne_eqb, not-true}
@@ -61,11 +61,11 @@ apart_counted : (n : ℕ) (xs : List Row) → IsApart (counted_from n xs)
 apart_counted n [] = tt
 apart_counted n (x ∷ xs) = (each_weaker (λ x. (n + 1 ≤ x.seq) × (x.seq < n + 1 + length xs)) (λ y. n ≢ y.seq) (λ y w e. absurd (omega arith)) (counted_from (n + 1) xs) (between (n + 1) (n + 1 + length xs) xs (omega arith)), apart_counted (n + 1) xs)
 
-pub renumbered_table : (t : Table) → IsRising t.rows → IsTable (renumbered t)
-renumbered_table t s = record {
-  rising = rising_counted 0 t.rows s;
-  apart = apart_counted 0 t.rows;
-  fresh = each_weaker (λ x. (0 ≤ x.seq) × (x.seq < length t.rows)) (λ x. x.seq < length t.rows) (λ x w. w.1) (counted_from 0 t.rows) (between 0 (length t.rows) t.rows (omega arith));
+pub numbered_counted : (rows : List Row) → IsRising rows → IsNumbered (counted_from 0 rows) (length rows)
+numbered_counted rows s = record {
+  rising = rising_counted 0 rows s;
+  apart = apart_counted 0 rows;
+  fresh = each_weaker (λ x. (0 ≤ x.seq) × (x.seq < length rows)) (λ x. x.seq < length rows) (λ x w. w.1) (counted_from 0 rows) (between 0 (length rows) rows (omega arith));
 }
 
 -- ---- one step of a loop

@@ -4,7 +4,7 @@ use Rattle.std.specs.Option.{option_to_list}
 use Rattle.std.specs.Prelude.{IfSome}
 use Rattle.std.specs.Ordering.{is_lt, is_gt}
 use Rattle.saved_doc.specs.declared.doc.Row.{Row}
-use Rattle.doc_table.specs.Table.{Each, below, above, found}
+use Rattle.doc_table.specs.RowLists.{Each, below, above, found}
 use Rattle.doc_table.specs.Place.{IsBelow, IsAt, IsAbove, Splits}
 use Rattle.doc_table.proofs.Order.{each_weaker, filter_all, filter_none}
 

@@ -4,7 +4,7 @@ use Rattle.std.specs.List.{flat_map}
 use Rattle.std.specs.Int.{bit_at}
 use Rattle.saved_doc.specs.declared.doc.Row.{Row}
 use Rattle.doc_table.specs.declared.page.SharedPage.{SharedPage}
-use Rattle.doc_table.specs.Table.{Each, IsRising, IsTable}
+use Rattle.doc_table.specs.RowLists.{Each, IsRising, IsNumbered}
 use Rattle.doc_table.specs.Place.{IsBelow, IsAbove}
 
 -- the rows whose bits are set, where the first one's bit is bit i
@@ -39,9 +39,9 @@ pub record IsPageOf (r : List ℕ) (pages : List SharedPage) (p : ℕ) : Type 0 
   pub lower : Each (IsBelow r) (all_rows (take p pages))
   pub higher : Each (IsAbove r) (all_rows (drop (p + 1) pages))
 
--- the live rows are a table's
+-- the live rows are those of a table
 pub record IsPaged (pages : List SharedPage) (next : ℕ) : Type 0 where
-  pub table : IsTable (record { rows = rows_of pages; next = next })
+  pub numbered : IsNumbered (rows_of pages) next
   pub paged : IsPages pages
 
 -- ---- a reader at an index of a page

@@ -3,7 +3,7 @@ use Rattle.std.specs.Prelude.{◌≡◌, ℕ, ◌+◌, ◌<◌, ◌≤◌, List,
 use Rattle.std.specs.Option.{option_to_list}
 use Rattle.std.specs.declared.cmp.Ordering.TheVariants.{Less, Equal, Greater}
 use Rattle.saved_doc.specs.declared.doc.Row.{Row}
-use Rattle.doc_table.specs.Table.{order, Each}
+use Rattle.doc_table.specs.RowLists.{order, Each}
 
 abbrev pub IsBelow : List ℕ → Row → Type 0
 IsBelow r x = order x.raw r ≡ Less

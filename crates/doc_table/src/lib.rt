@@ -1,4 +1,4 @@
-//! Tables of saved objects: rows in rising order of raw id, and the next number.
+//! Tables of saved objects: rows in rising order of raw id, and the number of the next write.
 #![tactic(auto)]
 
 mod copies;
@@ -15,3 +15,6 @@ pub use reader::Rows;
 pub use saved_doc::Row;
 pub use table::DocTable;
 pub use writes::{Item, Write};
+
+#[cfg(test)]
+mod tests;

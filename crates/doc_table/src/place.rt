@@ -1,5 +1,5 @@
 ghost use Rattle.std.specs.Prelude.{◌≡◌, ◌≤◌, length, OnOk, OnErr, slice_get};
-ghost use Rattle.doc_table.specs.Table.{order, IsRising, with_row, below, above, meets, is_after};
+ghost use Rattle.doc_table.specs.RowLists.{order, IsRising, with_row, below, above, found, meets, is_after};
 ghost use Rattle.std.specs.Option.{option_copied};
 ghost use Rattle.doc_table.specs.Place.{IsPlace};
 ghost use Rattle.std.specs.Prelude.{◌++◌, ◌+◌, ◌<◌, ◌^◌, [], ◌∷◌, take, if◌then◌else◌};
@@ -8,6 +8,7 @@ use saved_doc::Row;
 use std::alloc::AllocError;
 use std::cmp::Ordering;
 
+/// The order of a row's raw id and this one.
 pub fn compare(row: &Row, raw: &str) -> Ordering
     ensures { result ≡ order row.now.raw raw.now }
 {
@@ -77,6 +78,17 @@ pub fn row_at(rows: &[Row], at: usize) -> Option<&Row>
     ensures { option_copied result ≡ slice_get rows.now at }
 {
     rows.get(at)
+}
+
+/// The row of a raw id, looked for row by row.
+pub fn look<'a>(rows: &'a [Row], raw: &str) -> Option<&'a Row>
+    requires { IsRising rows.now }
+    ensures { option_copied result ≡ found raw.now rows.now }
+{
+    match scan(rows, raw) {
+        Ok(at) => row_at(rows, at),
+        Err(_) => None,
+    }
 }
 
 /// Whether a number that is expected is the one that is there.

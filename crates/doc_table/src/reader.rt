@@ -1,13 +1,14 @@
 ghost use Rattle.std.specs.Prelude.{◌≡◌, ◌<◌, ◌≤◌, ◌==◌, [], ◌∷◌, length, drop, true, slice_get, MatchOption, IfSome};
 ghost use Rattle.std.specs.Int.{bit_at};
-ghost use Rattle.doc_table.specs.Table.{Each};
+ghost use Rattle.doc_table.specs.RowLists.{Each};
+ghost use Rattle.doc_table.specs.Tables.{entries, entry_of};
 ghost use Rattle.doc_table.specs.Pages.{live_from, page_rows, rows_of, rows_left, IsSized, IsLiveAt};
 
 use crate::page::{SharedPage, is_live};
 use saved_doc::Row;
 use std::marker::Model;
 
-/// Lends a table's rows in order. Takes no memory.
+/// Lends a table's rows in order; contracts see those that are left. Takes no memory.
 #[derive(Drop)]
 pub struct Rows<'a> {
     pages: &'a [SharedPage],
@@ -16,26 +17,28 @@ pub struct Rows<'a> {
 }
 
 impl<'a> Model for Rows<'a> {
-    ghost use Rattle.std.specs.Prelude.{List};
-    ghost use Rattle.std.specs.Coded.{coded_list};
-    ghost use Rattle.saved_doc.specs.declared.doc.Row.{Row};
-    ghost use Rattle.saved_doc.specs.contracts.doc.Row as row;
-    ghost use Rattle.doc_table.specs.Table.{Each};
+    ghost use Rattle.base_model.specs.Keyed.{Keyed};
+    ghost use Rattle.document_model.specs.Documents.{Doc as Document};
+    ghost use Rattle.race_model.specs.Stores.{Cell};
+    ghost use Rattle.so_js.specs.declared.js.Js.{Js};
+    ghost use Rattle.doc_table.specs.RowLists.{Each};
     ghost use Rattle.doc_table.specs.Pages.{rows_left, IsSized};
+    ghost use Rattle.doc_table.specs.Tables.{entries, rows_code};
 
-    ghost Value = { List Row };
+    ghost Value = { Keyed (Cell (Document Js)) };
 
-    ghost coded = { coded_list row.the_row.coded };
+    ghost coded = { rows_code };
 
-    ghost view = { λ r. rows_left r.pages.now r.page r.at };
+    ghost view = { λ r. entries (rows_left r.pages.now r.page r.at) };
 
     ghost invariant = { λ r. Each IsSized r.pages.now };
 }
 
 impl<'a> Rows<'a> {
-    pub fn of(pages: &'a [SharedPage]) -> Rows<'a>
+    /// The rows of these pages.
+    pub(crate) fn of(pages: &'a [SharedPage]) -> Rows<'a>
         requires { Each IsSized pages.now }
-        ensures { result ≡ rows_of pages.now }
+        ensures { result ≡ entries (rows_of pages.now) }
     {
         Rows {
             pages,
@@ -44,9 +47,9 @@ impl<'a> Rows<'a> {
         }
     }
 
-    /// The next row.
+    /// The next row, or `None` where none is left. Takes no memory.
     pub fn next(&mut self) -> Option<&'a Row>
-        ensures { MatchOption result ((self.old ≡ []) × (self.new ≡ [])) (λ x. self.old ≡ x.now ∷ self.new) }
+        ensures { MatchOption result ((self.old ≡ []) × (self.new ≡ [])) (λ x. self.old ≡ entry_of x.now ∷ self.new) }
     {
         let pages = self.pages;
         let (p, i) = next_spot(pages, self.page, self.at);

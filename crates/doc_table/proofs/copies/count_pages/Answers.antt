@@ -1,6 +1,6 @@
 use Rattle.std.proofs.Common.{length, take, sym, ◌∙◌, subst, ap, arith, length-append}
 use Rattle.std.proofs.lemmas.List.{take_all}
-use Rattle.doc_table.specs.Table.{IsRising, counted_from}
+use Rattle.doc_table.specs.RowLists.{IsRising, counted_from}
 use Rattle.doc_table.specs.Pages.{rows_of, live_rows}
 use Rattle.doc_table.proofs.Readers.{page_fits, count_more, rows_more, rising_counted, length-counted}
 use Rattle.doc_table.proofs.copies.count_pages.Goals as goal

@@ -1,5 +1,5 @@
 use Rattle.std.proofs.Common.{◌≡◌, length, take}
-use Rattle.doc_table.specs.Table.{Each, counted_from}
+use Rattle.doc_table.specs.RowLists.{Each, counted_from}
 use Rattle.doc_table.specs.Pages.{rows_of, all_rows, IsSized}
 use Rattle.doc_table.proofs.copies.count_pages.Given as goal
 

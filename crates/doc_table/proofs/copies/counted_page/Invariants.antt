@@ -1,5 +1,5 @@
 use Rattle.std.proofs.Common.{◌≡◌, take}
-use Rattle.doc_table.specs.Table.{counted_from}
+use Rattle.doc_table.specs.RowLists.{counted_from}
 use Rattle.doc_table.specs.Pages.{live_from, page_rows}
 use Rattle.doc_table.proofs.copies.counted_page.Given as goal
 

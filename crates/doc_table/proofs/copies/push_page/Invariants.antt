@@ -1,6 +1,6 @@
 use Rattle.std.proofs.Common.{◌≡◌, ◌++◌, take}
 use Rattle.std.specs.Option.{option_copied}
-use Rattle.doc_table.specs.Table.{rows_after}
+use Rattle.doc_table.specs.RowLists.{rows_after}
 use Rattle.doc_table.specs.Pages.{live_from}
 use Rattle.doc_table.proofs.copies.push_page.Given as goal
 

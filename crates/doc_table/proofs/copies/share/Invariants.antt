@@ -1,5 +1,5 @@
 use Rattle.std.proofs.Common.{◌≡◌, take}
-use Rattle.doc_table.specs.Table.{Each}
+use Rattle.doc_table.specs.RowLists.{Each}
 use Rattle.doc_table.specs.Pages.{rows_of, all_rows, IsSized}
 use Rattle.doc_table.proofs.copies.share.Given as goal
 

@@ -1,6 +1,6 @@
 use Rattle.std.proofs.Common.{◌≡◌, ℕ, List, Option, Some, drop, sym, ap, subst}
 use Rattle.std.specs.Option.{option_copied}
-use Rattle.doc_table.specs.Table.{rows_after}
+use Rattle.doc_table.specs.RowLists.{rows_after}
 use Rattle.doc_table.specs.Pages.{rows_of}
 use Rattle.doc_table.proofs.Readers.{start_rest}
 use Rattle.doc_table.proofs.copies.start_of.Goals as goal

@@ -1,6 +1,6 @@
 use Rattle.std.proofs.Common.{◌∙◌, take, drop, sym, ap, arith}
 use Rattle.std.specs.Option.{option_copied}
-use Rattle.doc_table.specs.Table.{rows_after}
+use Rattle.doc_table.specs.RowLists.{rows_after}
 use Rattle.doc_table.specs.Pages.{rows_of}
 use Rattle.doc_table.proofs.Readers.{enough, rows_rest}
 use Rattle.doc_table.proofs.copies.take_pages.Goals as goal

@@ -1,6 +1,6 @@
 use Rattle.std.proofs.Common.{◌≡◌, ℕ, List, true, length, sym, ◌∙◌, ap, arith}
 use Rattle.std.specs.Option.{is_some}
-use Rattle.doc_table.specs.Table.{found}
+use Rattle.doc_table.specs.RowLists.{found}
 use Rattle.doc_table.specs.Pages.{live_rows}
 use Rattle.doc_table.proofs.PageChanges.{room_to_replace, room_to_add}
 use Rattle.doc_table.proofs.page.has_room.Goals as goal

@@ -1,7 +1,7 @@
 use Rattle.std.proofs.Common.{◌≡◌, Vec, Global, sym, ◌∙◌, ap, subst, arith}
 use Rattle.std.specs.declared.cmp.Ordering.TheVariants.{Less}
 use Rattle.saved_doc.specs.declared.doc.Row.{Row}
-use Rattle.doc_table.specs.Table.{IsRising, order, with_row}
+use Rattle.doc_table.specs.RowLists.{IsRising, order, with_row}
 use Rattle.doc_table.specs.Pages.{live_from, live_rows, page_rows}
 use Rattle.doc_table.proofs.Live.{pairwise_live, length-live}
 use Rattle.doc_table.proofs.PageChanges.{full_page}

@@ -1,7 +1,7 @@
 use Rattle.std.proofs.Common.{◌≡◌, ◌≤◌, List, length, sym, ◌∙◌, ap, subst}
 use Rattle.std.specs.declared.cmp.Ordering.TheVariants.{Less}
 use Rattle.saved_doc.specs.declared.doc.Row.{Row}
-use Rattle.doc_table.specs.Table.{IsRising, order, with_row}
+use Rattle.doc_table.specs.RowLists.{IsRising, order, with_row}
 use Rattle.doc_table.specs.Pages.{page_rows}
 use Rattle.doc_table.proofs.Live.{pairwise_live}
 use Rattle.doc_table.proofs.PageChanges.{few_rows}

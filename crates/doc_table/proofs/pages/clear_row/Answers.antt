@@ -1,6 +1,6 @@
 use Rattle.std.proofs.Common.{◌≡◌, ◌++◌, [], ◌∷◌, sym, ◌∙◌, ap, subst, append-nil}
 use Rattle.doc_table.specs.declared.page.SharedPage.{SharedPage}
-use Rattle.doc_table.specs.Table.{below, above}
+use Rattle.doc_table.specs.RowLists.{below, above}
 use Rattle.doc_table.specs.Pages.{page_rows, live_rows, live_from, rows_of, IsPages}
 use Rattle.doc_table.proofs.Live.{live_none}
 use Rattle.doc_table.proofs.PageChanges.{swapped_one, swapped_none, rows_out, pages_out, pages_kept, page_rising, same_item}

@@ -1,10 +1,10 @@
 use Rattle.std.proofs.Common.{◌≡◌, ℕ, ◌+◌, ◌-◌, ◌/◌, true, false, List, get_or, take, ◌∙◌, ap, subst, arith}
 use Rattle.std.specs.Ordering.{is_gt}
 use Rattle.saved_doc.specs.declared.doc.Row.{Row}
-use Rattle.doc_table.specs.Table.{order, Each}
+use Rattle.doc_table.specs.RowLists.{order, Each}
 use Rattle.doc_table.specs.Place.{IsBelow}
 use Rattle.doc_table.specs.Pages.{all_rows}
-use Rattle.doc_table.proofs.Tables.{greater-is_gt}
+use Rattle.doc_table.proofs.Numbered.{greater-is_gt}
 use Rattle.doc_table.proofs.PageLists.{pages_lower, pages_higher, page_of_end}
 use Rattle.doc_table.proofs.pages.page_of.Goals as goal
 

@@ -1,5 +1,5 @@
 use Rattle.std.proofs.Common.{◌-◌, ◌≤◌, length, take, drop}
-use Rattle.doc_table.specs.Table.{Each}
+use Rattle.doc_table.specs.RowLists.{Each}
 use Rattle.doc_table.specs.Place.{IsBelow, IsAbove}
 use Rattle.doc_table.specs.Pages.{all_rows}
 use Rattle.doc_table.proofs.pages.page_of.Given as goal

@@ -1,7 +1,7 @@
 use Rattle.std.proofs.Common.{◌≡◌, ◌++◌, [], ◌∷◌, List, length, set, sym, ◌∙◌, ap, subst, arith, append-nil}
 use Rattle.std.proofs.lemmas.List.{take-append-drop, length-take-le, length-drop}
 use Rattle.doc_table.specs.declared.page.SharedPage.{SharedPage}
-use Rattle.doc_table.specs.Table.{Each, with_row}
+use Rattle.doc_table.specs.RowLists.{Each, with_row}
 use Rattle.doc_table.specs.Pages.{page_rows, live_rows, all_rows, rows_of, IsSized, IsPages}
 use Rattle.doc_table.proofs.PageChanges.{swapped_one, swapped_two, rows_put, pages_put, page_rising}
 use Rattle.doc_table.proofs.pages.put_copied.Goals as goal

@@ -1,6 +1,6 @@
 use Rattle.std.proofs.Common.{◌<◌, ◌≤◌, length, sym, subst}
 use Rattle.doc_table.specs.declared.page.SharedPage.{SharedPage}
-use Rattle.doc_table.specs.Table.{with_row}
+use Rattle.doc_table.specs.RowLists.{with_row}
 use Rattle.doc_table.specs.Pages.{live_rows, IsSized}
 use Rattle.doc_table.proofs.PageLists.{each_at}
 use Rattle.doc_table.proofs.PageChanges.{page_rising, same_item, place_put, place_kept}

@@ -1,6 +1,6 @@
 use Rattle.std.proofs.Common.{List, sym, ◌∙◌, ap}
 use Rattle.saved_doc.specs.declared.doc.Row.{Row}
-use Rattle.doc_table.specs.Table.{found}
+use Rattle.doc_table.specs.RowLists.{found}
 use Rattle.doc_table.specs.Pages.{live_from}
 use Rattle.doc_table.proofs.Live.{look_here, look_dead, look_gap}
 use Rattle.doc_table.proofs.page.SharedPage.look.Goals as goal

@@ -3,10 +3,8 @@ use Rattle.std.proofs.Common.{◌≡◌, ◌≢◌, ℕ, ◌+◌, ◌<◌, true,
 use Rattle.std.specs.Ordering.{is_lt, is_gt}
 use Rattle.std.specs.declared.cmp.Ordering.{Ordering}
 use Rattle.std.specs.declared.cmp.Ordering.TheVariants.{Less, Equal, Greater}
-use Rattle.document_model.specs.Documents.{Doc}
-use Rattle.so_js.specs.declared.js.Js.{Js}
 use Rattle.saved_doc.specs.declared.doc.Row.{Row}
-use Rattle.doc_table.specs.Table.{Table, IsTable, Each, IsRising, IsApart, order, below, above, with_row, written, without}
+use Rattle.doc_table.specs.RowLists.{IsNumbered, Each, IsRising, IsApart, order, below, above, with_row}
 use Rattle.doc_table.specs.Place.{IsBelow, IsAbove}
 use Rattle.doc_table.proofs.Order.{each_weaker, each_append, each_filter, each_filter_passes, each_of_each, pairwise_append, pairwise_filter, pairwise_filters}
 use Rattle.doc_table.proofs.Places.{flip_greater, less_chain}
@@ -69,21 +67,20 @@ without_apart r rows s =
 fresher : (n : ℕ) (rows : List Row) → Each (λ x. x.seq < n) rows → Each (λ x. x.seq < n + 1) rows
 fresher n rows f = each_weaker (λ x. x.seq < n) (λ x. x.seq < n + 1) (λ x l. omega arith) rows f
 
-pub written_table : (t : Table) (r : List ℕ) (d : Doc Js) → IsTable t → IsTable (written t r d)
-written_table t r d s =
-    let x : Row = record { raw = r; seq = t.next; doc = d } in
-    let f : Each (λ x. x.seq < t.next + 1) t.rows = fresher t.next t.rows s.fresh in
+pub numbered_with : (x : Row) (rows : List Row) → IsNumbered rows x.seq → IsNumbered (with_row x rows) (x.seq + 1)
+numbered_with x rows s =
+    let f : Each (λ y. y.seq < x.seq + 1) rows = fresher x.seq rows s.fresh in
     record {
-      rising = with_rising x t.rows s.rising;
-      apart = with_apart x t.rows s.fresh s.apart;
-      fresh = each_append (λ x. x.seq < t.next + 1) (below r t.rows) (x ∷ above r t.rows) (each_filter _ _ t.rows f) (omega arith, each_filter _ _ t.rows f);
+      rising = with_rising x rows s.rising;
+      apart = with_apart x rows s.fresh s.apart;
+      fresh = each_append (λ y. y.seq < x.seq + 1) (below x.raw rows) (x ∷ above x.raw rows) (each_filter _ _ rows f) (omega arith, each_filter _ _ rows f);
     }
 
-pub without_table : (t : Table) (r : List ℕ) → IsTable t → IsTable (without t r)
-without_table t r s =
-    let f : Each (λ x. x.seq < t.next + 1) t.rows = fresher t.next t.rows s.fresh in
+pub numbered_without : (r : List ℕ) (rows : List Row) (next : ℕ) → IsNumbered rows next → IsNumbered (below r rows ++ above r rows) (next + 1)
+numbered_without r rows next s =
+    let f : Each (λ x. x.seq < next + 1) rows = fresher next rows s.fresh in
     record {
-      rising = without_rising r t.rows s.rising;
-      apart = without_apart r t.rows s.apart;
-      fresh = each_append (λ x. x.seq < t.next + 1) (below r t.rows) (above r t.rows) (each_filter _ _ t.rows f) (each_filter _ _ t.rows f);
+      rising = without_rising r rows s.rising;
+      apart = without_apart r rows s.apart;
+      fresh = each_append (λ x. x.seq < next + 1) (below r rows) (above r rows) (each_filter _ _ rows f) (each_filter _ _ rows f);
     }
