@@ -1,5 +1,5 @@
 -- A write by its cases.
-use Rattle.std.proofs.Common.{◌≡◌, ℕ, Bool, true, false, List, Option, Some, None, Result, Ok, Err, refl, sym, ◌∙◌, ap, if◌then◌else◌}
+use Rattle.std.proofs.Common.{◌≡◌, ℕ, Bool, true, false, Option, Some, None, Result, Ok, Err, refl, sym, ◌∙◌, ap, if◌then◌else◌}
 use Rattle.std.specs.Prelude.{IfOk}
 use Rattle.base_model.specs.Keyed.{Text, at}
 use Rattle.document_model.specs.Documents.{Doc}

@@ -12,7 +12,7 @@ use Rattle.text_order.proofs.Order.{below_by_cmp}
 use Rattle.base_model.specs.Keyed.{Text, same, text_lt, at, put, without}
 use Rattle.document_model.specs.Documents.{Doc}
 use Rattle.race_model.specs.Sorted.{IsSorted, AllAbove}
-use Rattle.race_model.specs.Stores.{Cell, Rows, Table, found_one, written, dropped, numbered, renumbered}
+use Rattle.race_model.specs.Stores.{Cell, Rows, found_one, written, dropped, numbered, renumbered}
 use Rattle.race_tables.proofs.Keys.{same_true}
 use Rattle.saved_doc.specs.declared.doc.Row.{Row}
 use Rattle.so_js.specs.declared.js.Js.{Js}
@@ -69,7 +69,7 @@ at_entries r (x ∷ xs) =
 
 put_step : (x y : Row) (ys : List Row) (o : Ordering) → order y.raw x.raw ≡ o → Each (λ z. order y.raw z.raw ≡ Less) ys → put x.raw (cell_of x) (entries ys) ≡ entries (with_row x ys)
     → (if is_eq o then entry_of x ∷ entries ys else if is_gt o then entry_of x ∷ entry_of y ∷ entries ys else entry_of y ∷ put x.raw (cell_of x) (entries ys))
-      ≡ entries (cond (is_lt o) (y ∷ below x.raw ys) (below x.raw ys) ++ x ∷ cond (is_gt o) (y ∷ above x.raw ys) (above x.raw ys))
+    ≡ entries (cond (is_lt o) (y ∷ below x.raw ys) (below x.raw ys) ++ x ∷ cond (is_gt o) (y ∷ above x.raw ys) (above x.raw ys))
 put_step x y ys Less e l h = ap (λ (t : Rows (Doc Js)). entry_of y ∷ t) h
 put_step x y ys Equal e l h =
     let a = tail_above x.raw y ys Equal e (λ q. cc) l in

@@ -19,7 +19,12 @@ fn keeps(live: u64, at: usize, row: &Row, after: Option<&str>) -> bool
 }
 
 /// Pushes copies of a page's rows above a raw id, up to a number of rows.
-fn push_page(out: &mut Vec<Row>, held: &SharedPage, after: Option<&str>, n: u64) -> Result<(), AllocError>
+fn push_page(
+    out: &mut Vec<Row>,
+    held: &SharedPage,
+    after: Option<&str>,
+    n: u64,
+) -> Result<(), AllocError>
     requires sized { IsSized held.now }
     requires few { length out.old.items ≤ n }
     ensures { OnOk result (out.new.items ≡ take n (out.old.items ++ rows_after (option_copied after.entry) (live_rows held.now))) }
@@ -149,7 +154,10 @@ fn push_rows(alloc: Global, out: &mut Vec<SharedPage>, rows: Vec<Row>) -> Result
 }
 
 /// New pages of the rows with numbers that count from 0, and their count.
-pub fn count_pages(alloc: Global, pages: &[SharedPage]) -> Result<(Vec<SharedPage>, u64), AllocError>
+pub fn count_pages(
+    alloc: Global,
+    pages: &[SharedPage],
+) -> Result<(Vec<SharedPage>, u64), AllocError>
     requires pages { IsPages pages.now }
     requires rising { IsRising (rows_of pages.now) }
     requires few { length (rows_of pages.now) < 2 ^ 64 }

@@ -41,7 +41,7 @@ fn apply_to(table: &mut DocTable, write: Write) -> Result<Option<Item>, AllocErr
 }
 
 fn put_rows(alloc: Global, table: &mut DocTable, doc: &SharedDoc) -> Result<bool, AllocError> {
-    for n in 0..100_000 {
+    for n in 0..100_000u64 {
         let raw = raw_of(alloc, n.wrapping_mul(7_919) % 100_003)?;
         let put = Write::Put {
             raw,
@@ -76,7 +76,12 @@ fn snapshots_keep_their_rows(rt: HostRuntime) -> Result<(), Fail> {
     let kept = snapshot.take_after(None, 1_000)?;
     assert_eq!(rt; kept.len(), 130);
     assert_eq!(rt; snapshot.next(), 130);
-    assert!(rt; are_same(kept.as_slice(), snapshot.renumbered()?.take_after(None, 1_000)?.as_slice()));
+    assert!(rt;
+        are_same(
+            kept.as_slice(),
+            snapshot.renumbered()?.take_after(None, 1_000)?.as_slice()
+        )
+    );
     Ok(())
 }
 

@@ -18,7 +18,10 @@ pub enum Item {
 #[derive(Clone, Debug, Drop)]
 pub enum Write {
     /// Adds a row where the raw id has none.
-    Create { raw: Text, doc: SharedDoc },
+    Create {
+        raw: Text,
+        doc: SharedDoc,
+    },
     /// Adds or replaces a row, where it has the number that is expected, if one is.
     Put {
         raw: Text,
@@ -26,5 +29,8 @@ pub enum Write {
         expect: Option<u64>,
     },
     /// Takes a row out, where it has the number that is expected, if one is.
-    Delete { raw: Text, expect: Option<u64> },
+    Delete {
+        raw: Text,
+        expect: Option<u64>,
+    },
 }

@@ -3,8 +3,6 @@ use Rattle.std.proofs.lemmas.List.{take_all}
 use Rattle.saved_doc.specs.declared.doc.Row.{Row}
 use Rattle.doc_table.specs.RowLists.{IsNumbered, IsRising, counted_from}
 use Rattle.doc_table.proofs.Readers.{counted_more, numbered_counted}
-use Rattle.document_model.specs.Documents.{Doc}
-use Rattle.so_js.specs.declared.js.Js.{Js}
 use Rattle.race_model.specs.Stores.{renumbered}
 use Rattle.doc_table.specs.Tables.{table_of}
 use Rattle.doc_table.proofs.Entries.{table_counted}

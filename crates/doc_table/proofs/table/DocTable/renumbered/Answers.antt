@@ -3,8 +3,6 @@ use Rattle.doc_table.specs.declared.page.SharedPage.{SharedPage}
 use Rattle.doc_table.specs.RowLists.{IsRising}
 use Rattle.doc_table.specs.Pages.{rows_of}
 use Rattle.doc_table.proofs.Readers.{few_numbers, numbered_counted}
-use Rattle.document_model.specs.Documents.{Doc}
-use Rattle.so_js.specs.declared.js.Js.{Js}
 use Rattle.race_model.specs.Stores.{renumbered}
 use Rattle.doc_table.specs.Tables.{table_of}
 use Rattle.doc_table.proofs.Entries.{table_counted}
