@@ -1,0 +1,13 @@
+pub mod Order
+pub mod Split
+pub mod Places
+pub mod Numbered
+pub mod Puts
+pub mod Live
+pub mod Flank
+pub mod PageLists
+pub mod PageChanges
+pub mod Readers
+pub mod Cursor
+pub mod Entries
+pub mod Cases

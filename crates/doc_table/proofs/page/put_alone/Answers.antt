@@ -1,0 +1,25 @@
+use Rattle.std.proofs.Common.{◌≡◌, Vec, Global, sym, ◌∙◌, ap, subst, arith}
+use Rattle.std.specs.declared.cmp.Ordering.TheVariants.{Less}
+use Rattle.saved_doc.specs.declared.doc.Row.{Row}
+use Rattle.doc_table.specs.RowLists.{IsRising, order, with_row}
+use Rattle.doc_table.specs.Pages.{live_from, live_rows, page_rows}
+use Rattle.doc_table.proofs.Live.{pairwise_live, length-live}
+use Rattle.doc_table.proofs.PageChanges.{full_page}
+use Rattle.doc_table.proofs.page.put_alone.Goals as goal
+
+pub put_in-done-requires : goal.put_in-done-requires
+put_in-done-requires c =
+    let e : c.keep_live.new.rows.items ≡ live_rows c.args.held.now = c.keep_live.ensures ∙ ap (λ (v : Vec Row Global). live_from c.args.held.now.live 0 v.items) c.in-Some.ensures.value in
+    subst IsRising (sym e) (pairwise_live (λ x y. order x.raw y.raw ≡ Less) c.args.held.now.live 0 (page_rows c.args.held.now) c.requires.rising)
+
+pub returns-in-Ok : goal.returns-in-Ok
+returns-in-Ok c =
+    let e : c.keep_live.new.rows.items ≡ live_rows c.args.held.now = c.keep_live.ensures ∙ ap (λ (v : Vec Row Global). live_from c.args.held.now.live 0 v.items) c.in-Some.ensures.value in
+    let a = c.in-Ok.ensures.ok ∙ ap (with_row c.args.row) e in
+    record { told = (a, full_page _ _ a c.requires.room) }
+
+pub returns-in-Err : goal.returns-in-Err
+returns-in-Err c =
+    let e : c.keep_live.new.rows.items ≡ live_rows c.args.held.now = c.keep_live.ensures ∙ ap (λ (v : Vec Row Global). live_from c.args.held.now.live 0 v.items) c.in-Some.ensures.value in
+    let a = c.in-Err.ensures.err ∙ e in
+    record { told = (a, full_page _ _ a (let s = c.requires.sized.1 in let k = length-live c.args.held.now.live 0 (page_rows c.args.held.now) in omega arith)) }

@@ -1,0 +1,8 @@
+use Rattle.std.proofs.Common.{subst}
+use Rattle.doc_table.specs.Tables.{IsTable}
+use Rattle.doc_table.proofs.Entries.{is_table}
+use Rattle.doc_table.specs.Pages.{rows_of}
+use Rattle.doc_table.proofs.table.DocTable.next.Goals as goal
+
+pub returns-clause-table : goal.returns-clause-table
+returns-clause-table c = subst IsTable c.self.view_is (is_table (rows_of c.self.inside.pages.items) c.self.inside.next c.self.invariant.numbered)

@@ -1,0 +1,57 @@
+-- Pages of rows, and the rows of them that are live.
+use Rattle.std.specs.Prelude.{◌≡◌, ℕ, ◌+◌, ◌<◌, ◌≤◌, ◌==◌, true, slice_get, Option, Some, None, cond, List, [], ◌∷◌, ◌++◌, length, take, drop}
+use Rattle.std.specs.List.{flat_map}
+use Rattle.std.specs.Int.{bit_at}
+use Rattle.saved_doc.specs.declared.doc.Row.{Row}
+use Rattle.doc_table.specs.declared.page.SharedPage.{SharedPage}
+use Rattle.doc_table.specs.RowLists.{Each, IsRising, IsNumbered}
+use Rattle.doc_table.specs.Place.{IsBelow, IsAbove}
+
+-- the rows whose bits are set, where the first one's bit is bit i
+abbrev pub live_from : ℕ → ℕ → List Row → List Row
+live_from bits i [] = []
+live_from bits i (x ∷ xs) = cond (bit_at bits i == 1) (x ∷ live_from bits (i + 1) xs) (live_from bits (i + 1) xs)
+
+-- all rows of a page, and those that are live
+abbrev pub page_rows : SharedPage → List Row
+page_rows h = h.page.value.items
+
+abbrev pub live_rows : SharedPage → List Row
+live_rows h = live_from h.live 0 (page_rows h)
+
+abbrev pub all_rows : List SharedPage → List Row
+all_rows = flat_map page_rows
+
+abbrev pub rows_of : List SharedPage → List Row
+rows_of = flat_map live_rows
+
+abbrev pub IsSized : SharedPage → Type 0
+IsSized h = (0 < length (page_rows h)) × (length (page_rows h) ≤ 64)
+
+-- each page has 1 to 64 rows, and all rows rise, page after page
+pub record IsPages (pages : List SharedPage) : Type 0 where
+  pub sized : Each IsSized pages
+  pub rising : IsRising (all_rows pages)
+
+-- r can stand in this page alone
+pub record IsPageOf (r : List ℕ) (pages : List SharedPage) (p : ℕ) : Type 0 where
+  pub within : p < length pages
+  pub lower : Each (IsBelow r) (all_rows (take p pages))
+  pub higher : Each (IsAbove r) (all_rows (drop (p + 1) pages))
+
+-- the live rows are those of a table
+pub record IsPaged (pages : List SharedPage) (next : ℕ) : Type 0 where
+  pub numbered : IsNumbered (rows_of pages) next
+  pub paged : IsPages pages
+
+-- ---- a reader at an index of a page
+
+abbrev pub left_in : Option SharedPage → ℕ → List Row
+left_in None at = []
+left_in (Some h) at = live_from h.live at (drop at (page_rows h))
+
+abbrev pub rows_left : List SharedPage → ℕ → ℕ → List Row
+rows_left pages p at = left_in (slice_get pages p) at ++ rows_of (drop (p + 1) pages)
+
+abbrev pub IsLiveAt : SharedPage → ℕ → Type 0
+IsLiveAt h i = (i < length (page_rows h)) × ((bit_at h.live i == 1) ≡ true)

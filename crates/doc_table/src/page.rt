@@ -1,0 +1,200 @@
+ghost use Rattle.std.specs.Prelude.{◌≡◌, ◌==◌, ◌<◌, ◌≤◌, ◌++◌, [], ◌∷◌, length, take, drop, OnOk, OnErr, IfOk, MatchResult, MatchOption, false, IsTrue, ◌↔◌, ◌&&◌, ◌^◌, ◌≢◌, ℕ, ◌+◌, if◌then◌else◌};
+ghost use Rattle.std.specs.Option.{option_copied};
+ghost use Rattle.std.specs.Int.{bit_at, bit_not};
+ghost use Rattle.std.specs.Int.RustNames.{bit_and};
+ghost use Rattle.doc_table.specs.RowLists.{IsRising, found, with_row, below, above, rows_after, is_after, counted_from, Each};
+ghost use Rattle.doc_table.specs.Pages.{live_from, page_rows, live_rows, all_rows, rows_of, IsPages, IsPageOf, IsSized};
+
+use crate::place::{place, put_at, row_at};
+use saved_doc::Row;
+use std::alloc::{AllocError, Global};
+use std::sync::Arc;
+
+/// A page of 1 to 64 rows, and the bits of those that are live.
+#[derive(Debug, Drop)]
+pub struct SharedPage {
+    pub page: Arc<Vec<Row>>,
+    pub live: u64,
+}
+
+pub fn is_live(live: u64, at: usize) -> bool
+    requires { at < 64 }
+    ensures { result ≡ (bit_at live at == 1) }
+{
+    (live >> at) & 1 == 1
+}
+
+fn push_live(out: &mut Vec<Row>, row: &Row, live: bool) -> Result<(), AllocError>
+    ensures { OnOk result (out.new.items ≡ out.old.items ++ (if live then row.now ∷ [] else [])) }
+{
+    if live {
+        out.push(row.clone()?)?;
+    }
+    Ok(())
+}
+
+/// The bits without one.
+fn cleared(live: u64, at: usize) -> u64
+    requires { at < 64 }
+    ensures same { bit_at result at ≡ 0 }
+    ensures others { (i : ℕ) → i < 64 → i ≢ at → bit_at result i ≡ bit_at live i }
+{
+    live & !(1 << at)
+}
+
+impl SharedPage {
+    /// A page of live rows.
+    pub fn of(alloc: Global, rows: Vec<Row>) -> Result<SharedPage, AllocError>
+        requires { length rows.items ≤ 64 }
+        ensures page { IfOk result (λ h. page_rows h ≡ rows.items) }
+        ensures live { IfOk result (λ h. live_rows h ≡ rows.items) }
+    {
+        Ok(SharedPage {
+            page: Arc::new(alloc, rows)?,
+            live: u64::MAX,
+        })
+    }
+
+    /// All rows of the page.
+    pub fn rows(&self) -> &[Row]
+        ensures { result.now ≡ page_rows self.now }
+    {
+        self.page.as_slice()
+    }
+
+    /// The live row of a raw id.
+    pub fn look(&self, raw: &str) -> Option<&Row>
+        requires rising { IsRising (page_rows self.now) }
+        requires sized { IsSized self.now }
+        ensures { option_copied result ≡ found raw.now (live_rows self.now) }
+    {
+        let rows = self.rows();
+        match place(rows, raw) {
+            Ok(at) => {
+                if is_live(self.live, at) {
+                    row_at(rows, at)
+                } else {
+                    None
+                }
+            }
+            Err(_) => None,
+        }
+    }
+
+    /// Copies of the live rows.
+    pub fn copies(&self, alloc: Global) -> Result<Vec<Row>, AllocError>
+        requires { IsSized self.now }
+        ensures { IfOk result (λ v. v.items ≡ live_rows self.now) }
+    {
+        let rows = self.rows();
+        let mut out = Vec::new(alloc);
+        for i in 0..rows.len() {
+            push_live(&mut out, &rows[i], is_live(self.live, i))?;
+        }
+        Ok(out)
+    }
+}
+
+/// The bits of a page without the row of a raw id.
+pub fn without_row(held: &SharedPage, raw: &str) -> u64
+    requires rising { IsRising (page_rows held.now) }
+    requires sized { IsSized held.now }
+    ensures { live_from result 0 (page_rows held.now) ≡ below raw.now (live_rows held.now) ++ above raw.now (live_rows held.now) }
+{
+    match place(held.rows(), raw) {
+        Ok(at) => cleared(held.live, at),
+        Err(_) => held.live,
+    }
+}
+
+/// Whether no row of a page is live by these bits.
+pub fn is_dead(held: &SharedPage, live: u64) -> bool
+    requires { IsSized held.now }
+    ensures dead { IsTrue result → live_from live 0 (page_rows held.now) ≡ [] }
+    ensures alive { result ≡ false → 0 < length (live_from live 0 (page_rows held.now)) }
+{
+    let rows = held.rows();
+    for i in 0..rows.len() {
+        if is_live(live, i) {
+            return false;
+        }
+    }
+    true
+}
+
+/// Copies of a page's live rows, with a row put at its place.
+pub fn rewritten(alloc: Global, held: &SharedPage, row: Row) -> Result<Vec<Row>, AllocError>
+    requires rising { IsRising (page_rows held.now) }
+    requires sized { IsSized held.now }
+    ensures rows { IfOk result (λ v. v.items ≡ with_row row (live_rows held.now)) }
+    ensures some { IfOk result (λ v. 0 < length v.items) }
+    ensures few { IfOk result (λ v. length v.items ≤ 65) }
+{
+    let mut rows = held.copies(alloc)?;
+    let place = place(rows.as_slice(), row.raw.as_str());
+    put_at(&mut rows, place, row)?;
+    Ok(rows)
+}
+
+/// Keeps the rows whose bits are set.
+fn keep_live(rows: &mut Vec<Row>, live: u64)
+    requires { length rows.old.items ≤ 64 }
+    ensures { rows.new.items ≡ live_from live 0 rows.old.items }
+{
+    let mut left = rows.len();
+    while left > 0 {
+        left -= 1;
+        if !is_live(live, left) {
+            drop(rows.remove(left));
+        }
+    }
+}
+
+/// Puts a row at its place.
+fn put_in(rows: &mut Vec<Row>, row: Row) -> Result<(), AllocError>
+    requires { IsRising rows.old.items }
+    ensures ok { OnOk result (rows.new.items ≡ with_row row rows.old.items) }
+    ensures err { OnErr result (rows.new.items ≡ rows.old.items) }
+{
+    let place = place(rows.as_slice(), row.raw.as_str());
+    put_at(rows, place, row)
+}
+
+/// Puts a row into a page that isn't shared, or gives the row back.
+pub fn put_alone(held: &mut SharedPage, row: Row) -> Result<Option<Row>, AllocError>
+    requires rising { IsRising (page_rows held.old) }
+    requires sized { IsSized held.old }
+    requires room { length (with_row row (live_rows held.old)) ≤ 64 }
+    ensures told { MatchResult result (λ back. MatchOption back ((page_rows held.new ≡ with_row row (live_rows held.old)) × (live_rows held.new ≡ with_row row (live_rows held.old))) (λ r. (r ≡ row) × (held.new ≡ held.old))) (λ _. (page_rows held.new ≡ live_rows held.old) × (live_rows held.new ≡ live_rows held.old)) }
+{
+    let live = held.live;
+    let Some(rows) = Arc::get_mut(&mut held.page) else {
+        return Ok(Some(row));
+    };
+    keep_live(rows, live);
+    let done = put_in(rows, row);
+    held.live = u64::MAX;
+    match done {
+        Ok(()) => Ok(None),
+        Err(refused) => Err(refused),
+    }
+}
+
+/// Whether a page has live rows, and can take a row in place.
+pub fn has_room(held: &SharedPage, row: &Row) -> bool
+    requires rising { IsRising (page_rows held.now) }
+    requires sized { IsSized held.now }
+    ensures some { IsTrue result → 0 < length (live_rows held.now) }
+    ensures room { IsTrue result → length (with_row row.now (live_rows held.now)) ≤ 64 }
+{
+    if is_dead(held, held.live) {
+        return false;
+    }
+    if held.rows().len() < 64 {
+        return true;
+    }
+    match held.look(row.raw.as_str()) {
+        Some(_) => true,
+        None => false,
+    }
+}
