@@ -1,7 +1,7 @@
 -- Lists of borrowed rows, and the cells that they stand for.
-use Rattle.std.proofs.Common.{◌≡◌, ℕ, Bool, true, false, cond, List, [], ◌∷◌, ◌++◌, map, take, drop, reverse, Bor, refl, sym, ap, ◌∙◌, append_assoc}
+use Rattle.std.proofs.Common.{◌≡◌, ℕ, true, false, List, [], ◌∷◌, ◌++◌, length, map, take, drop, reverse, Bor, refl, sym, ap, ◌∙◌, append_assoc}
 use Rattle.std.proofs.lemmas.Grind.{reverse_onto}
-use Rattle.std.proofs.lemmas.List.{take-map, drop-map, map-append}
+use Rattle.std.proofs.lemmas.List.{take-map, drop-map, map-append, length-map}
 use Rattle.base_model.specs.Keyed.{Text}
 use Rattle.race_model.specs.Stores.{Cell, Rows}
 use Rattle.document_model.specs.Documents.{Doc}
@@ -31,6 +31,9 @@ borrowed-take n rows = ap (map cell_of) (sym (take-map (λ r. r.now) n rows)) �
 
 pub borrowed-drop : (n : ℕ) (rows : List (Bor Row)) → borrowed (drop n rows) ≡ drop n (borrowed rows)
 borrowed-drop n rows = ap (map cell_of) (sym (drop-map (λ r. r.now) n rows)) ∙ sym (drop-map cell_of n (map (λ r. r.now) rows))
+
+pub borrowed-length : (rows : List (Bor Row)) → length (borrowed rows) ≡ length rows
+borrowed-length rows = length-map (map (λ r. r.now) rows) cell_of ∙ length-map rows (λ r. r.now)
 
 -- ---- the rows that are chosen
 

@@ -1,14 +1,14 @@
 -- What a search of a list says in the words of the definitions.
-use Rattle.std.proofs.Common.{◌≡◌, Bool, true, false, ◌&&◌, ◌||◌, ◌==◌, if◌then◌else◌, List, [], ◌∷◌, length, Option, refl, sym, ap, ◌∙◌}
+use Rattle.std.proofs.Common.{◌≡◌, Bool, true, false, ◌&&◌, ◌||◌, ◌==◌, not, if◌then◌else◌, List, [], ◌∷◌, length, Option, refl, sym, ap, ◌∙◌}
 use Rattle.std.specs.List.{list_any}
 use Rattle.std.specs.Str.{bytes_eq}
-use Rattle.base_model.specs.Keyed.{Text, same}
+use Rattle.base_model.specs.Keyed.{Text, same, text_lt}
 use Rattle.document_model.specs.declared.reference.Ref.{Ref}
-use Rattle.document_model.specs.Documents.{Doc, below, lists}
+use Rattle.document_model.specs.Documents.{Doc, below, lists, id_of}
 use Rattle.query_model.specs.declared.parts.Target.{Target}
 use Rattle.query_model.specs.declared.parts.TypeKind.{TypeKind}
 use Rattle.query_model.specs.declared.parts.TypeVer.{TypeVer}
-use Rattle.query_model.specs.Queries.{seen_in, of_types, refers, is_outdated, outdated_for}
+use Rattle.query_model.specs.Queries.{Query, Holds, selects, if_given, seen_in, of_types, refers, origin_is, is_outdated, outdated_for}
 
 pub any_is_types : {A : Type 0} (space : Option Text) (doc : Doc A) (types : List TypeKind) → list_any (λ t. bytes_eq t.name doc.type_name && seen_in space t.kind doc) types ≡ of_types space doc types
 unfolding same
@@ -51,14 +51,13 @@ and_true e f = rw e f
 pub and_false : {a v : Bool} (y : Bool) → a ≡ false → v ≡ a → v ≡ (a && y)
 and_false y e f = rw e (f ∙ e)
 
-from_left : (a b c d e f g : Bool) → ((((((a && b) && c) && d) && e) && f) && g) ≡ (a && (b && (c && (d && (e && (f && g))))))
-from_left false b c d e f g = refl
-from_left true false c d e f g = refl
-from_left true true false d e f g = refl
-from_left true true true false e f g = refl
-from_left true true true true false f g = refl
-from_left true true true true true f g = refl
-
--- seven tests, of which each is made where the ones before hold
-pub seven : (a b c d e f g v1 v2 v3 v4 v5 r : Bool) → v1 ≡ (a && b) → v2 ≡ (v1 && c) → v3 ≡ (v2 && d) → v4 ≡ (v3 && e) → v5 ≡ (v4 && f) → r ≡ (v5 && g) → r ≡ (a && (b && (c && (d && (e && (f && g))))))
-seven a b c d e f g v1 v2 v3 v4 v5 r h1 h2 h3 h4 h5 h6 = rw (h6, h5, h4, h3, h2, h1) (from_left a b c d e f g)
+-- a row is selected where seven tests hold, of which each is made where the ones before do
+pub selected : {A F : Type 0} (holds : Holds A F) (q : Query F) (raw : Text) (doc : Doc A) (v1 v2 v3 v4 v5 r : Bool)
+    → v1 ≡ (if_given q.types (of_types q.space doc) && not (lists doc.type_name q.not_types))
+    → v2 ≡ (v1 && if_given q.reference (refers doc.references))
+    → v3 ≡ (v2 && if_given q.origin (λ o. origin_is o doc.origin || same o (id_of raw doc)))
+    → v4 ≡ (v3 && outdated_for doc q.outdated)
+    → v5 ≡ (v4 && if_given q.after (λ a. text_lt a raw))
+    → r ≡ (v5 && if_given q.filter (λ f. holds f doc.type_name doc.attributes))
+    → r ≡ selects holds q raw doc
+selected holds q raw doc v1 v2 v3 v4 v5 r h1 h2 h3 h4 h5 h6 = rw (h6, h5, h4, h3, h2, h1) refl
