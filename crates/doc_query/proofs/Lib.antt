@@ -1,0 +1,5 @@
+mod StableSort
+mod Pages
+mod TimeOrder
+mod Searches
+mod Fronts
