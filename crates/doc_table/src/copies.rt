@@ -11,6 +11,7 @@ use crate::place::{is_after, push_counted, push_if};
 use saved_doc::Row;
 use std::alloc::{AllocError, Global};
 
+/// Whether a row is live and above a raw id, if one is given.
 fn keeps(live: u64, at: usize, row: &Row, after: Option<&str>) -> bool
     requires { at < 64 }
     ensures { result ≡ ((bit_at live at == 1) && is_after (option_copied after.entry) row.now) }
@@ -74,6 +75,7 @@ fn take_pages(
     Ok(out)
 }
 
+/// Copies of the first rows above a raw id, which is looked for by halves.
 pub fn take_rows(
     alloc: Global,
     pages: &[SharedPage],
@@ -114,6 +116,7 @@ pub fn share(alloc: Global, pages: &[SharedPage]) -> Result<Vec<SharedPage>, All
     Ok(out)
 }
 
+/// Pushes a copy of a row that is live, with the next of the numbers that count from `from`.
 fn push_counted_if(out: &mut Vec<Row>, row: &Row, live: bool, from: u64) -> Result<(), AllocError>
     requires { from + length out.old.items < 2 ^ 64 }
     ensures { OnOk result (out.new.items ≡ out.old.items ++ (if live then (record row.now { seq = from + length out.old.items }) ∷ [] else [])) }

@@ -17,6 +17,7 @@ pub struct SharedPage {
     pub live: u64,
 }
 
+/// Whether the row at this index is live.
 pub fn is_live(live: u64, at: usize) -> bool
     requires { at < 64 }
     ensures { result ≡ (bit_at live at == 1) }
@@ -24,6 +25,7 @@ pub fn is_live(live: u64, at: usize) -> bool
     (live >> at) & 1 == 1
 }
 
+/// Pushes a copy of a row that is live.
 fn push_live(out: &mut Vec<Row>, row: &Row, live: bool) -> Result<(), AllocError>
     ensures { OnOk result (out.new.items ≡ out.old.items ++ (if live then row.now ∷ [] else [])) }
 {

@@ -115,6 +115,7 @@ pub fn put_anywhere(pages: &mut Vec<SharedPage>, row: Row) -> Result<(), AllocEr
     put_row(pages, p, row)
 }
 
+/// Makes the first page, of one row.
 fn first_page(pages: &mut Vec<SharedPage>, row: Row) -> Result<(), AllocError>
     requires { pages.old.items ≡ [] }
     ensures ok { OnOk result (rows_of pages.new.items ≡ row ∷ []) }

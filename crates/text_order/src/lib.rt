@@ -2,9 +2,7 @@
 #![tactic(auto)]
 
 ghost use Rattle.std.specs.Prelude.{◌≡◌};
-ghost use Rattle.std.specs.Ordering.{is_lt, nat_cmp};
-ghost use Rattle.std.specs.Cmp.Lexicographic.{slice_cmp};
-ghost use Rattle.base_model.specs.Keyed.{Text as Bytes, text_lt};
+ghost use Rattle.base_model.specs.Keyed.{text_lt};
 
 use plain_data::Text;
 
