@@ -1,9 +1,8 @@
-ghost use Rattle.std.specs.Prelude.{◌≡◌, ◌==◌, ◌<◌, ◌≤◌, ◌++◌, [], ◌∷◌, length, take, drop, OnOk, OnErr, IfOk, MatchResult, MatchOption, false, IsTrue, ◌↔◌, ◌&&◌, ◌^◌, ◌≢◌, ℕ, ◌+◌, if◌then◌else◌};
+ghost use Rattle.std.specs.Prelude.{◌≡◌, ◌==◌, ◌<◌, ◌≤◌, ◌++◌, [], ◌∷◌, length, take, drop, OnOk, IfOk, ◌&&◌, ◌^◌, ◌+◌, if◌then◌else◌};
 ghost use Rattle.std.specs.Option.{option_copied};
-ghost use Rattle.std.specs.Int.{bit_at, bit_not};
-ghost use Rattle.std.specs.Int.RustNames.{bit_and};
-ghost use Rattle.doc_table.specs.RowLists.{IsRising, found, with_row, below, above, rows_after, is_after, counted_from, Each};
-ghost use Rattle.doc_table.specs.Pages.{live_from, page_rows, live_rows, all_rows, rows_of, IsPages, IsPageOf, IsSized};
+ghost use Rattle.std.specs.Int.{bit_at};
+ghost use Rattle.doc_table.specs.RowLists.{IsRising, rows_after, is_after, counted_from, Each};
+ghost use Rattle.doc_table.specs.Pages.{page_rows, live_rows, all_rows, rows_of, IsPages, IsSized};
 
 use crate::page::{SharedPage, is_live};
 use crate::pages::page_of;

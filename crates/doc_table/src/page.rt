@@ -1,9 +1,8 @@
-ghost use Rattle.std.specs.Prelude.{◌≡◌, ◌==◌, ◌<◌, ◌≤◌, ◌++◌, [], ◌∷◌, length, take, drop, OnOk, OnErr, IfOk, MatchResult, MatchOption, false, IsTrue, ◌↔◌, ◌&&◌, ◌^◌, ◌≢◌, ℕ, ◌+◌, if◌then◌else◌};
+ghost use Rattle.std.specs.Prelude.{◌≡◌, ◌==◌, ◌<◌, ◌≤◌, ◌++◌, [], ◌∷◌, length, OnOk, OnErr, IfOk, MatchResult, MatchOption, false, IsTrue, ◌≢◌, ℕ, ◌+◌, if◌then◌else◌};
 ghost use Rattle.std.specs.Option.{option_copied};
-ghost use Rattle.std.specs.Int.{bit_at, bit_not};
-ghost use Rattle.std.specs.Int.RustNames.{bit_and};
-ghost use Rattle.doc_table.specs.RowLists.{IsRising, found, with_row, below, above, rows_after, is_after, counted_from, Each};
-ghost use Rattle.doc_table.specs.Pages.{live_from, page_rows, live_rows, all_rows, rows_of, IsPages, IsPageOf, IsSized};
+ghost use Rattle.std.specs.Int.{bit_at};
+ghost use Rattle.doc_table.specs.RowLists.{IsRising, found, with_row, below, above};
+ghost use Rattle.doc_table.specs.Pages.{live_from, page_rows, live_rows, IsSized};
 
 use crate::place::{place, put_at, row_at};
 use saved_doc::Row;
