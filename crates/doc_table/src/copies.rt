@@ -1,9 +1,8 @@
-ghost use Rattle.std.specs.Prelude.{◌≡◌, ◌==◌, ◌<◌, ◌≤◌, ◌++◌, [], ◌∷◌, length, take, drop, OnOk, OnErr, IfOk, MatchResult, MatchOption, false, IsTrue, ◌↔◌, ◌&&◌, ◌^◌, ◌≢◌, ℕ, ◌+◌, if◌then◌else◌};
+ghost use Rattle.std.specs.Prelude.{◌≡◌, ◌==◌, ◌<◌, ◌≤◌, ◌++◌, [], ◌∷◌, length, take, drop, OnOk, IfOk, ◌&&◌, ◌^◌, ◌+◌, if◌then◌else◌};
 ghost use Rattle.std.specs.Option.{option_copied};
-ghost use Rattle.std.specs.Int.{bit_at, bit_not};
-ghost use Rattle.std.specs.Int.RustNames.{bit_and};
-ghost use Rattle.doc_table.specs.RowLists.{IsRising, found, with_row, below, above, rows_after, is_after, counted_from, Each};
-ghost use Rattle.doc_table.specs.Pages.{live_from, page_rows, live_rows, all_rows, rows_of, IsPages, IsPageOf, IsSized};
+ghost use Rattle.std.specs.Int.{bit_at};
+ghost use Rattle.doc_table.specs.RowLists.{IsRising, rows_after, is_after, counted_from, Each};
+ghost use Rattle.doc_table.specs.Pages.{page_rows, live_rows, all_rows, rows_of, IsPages, IsSized};
 
 use crate::page::{SharedPage, is_live};
 use crate::pages::page_of;
@@ -11,6 +10,7 @@ use crate::place::{is_after, push_counted, push_if};
 use saved_doc::Row;
 use std::alloc::{AllocError, Global};
 
+/// Whether a row is live and above a raw id, if one is given.
 fn keeps(live: u64, at: usize, row: &Row, after: Option<&str>) -> bool
     requires { at < 64 }
     ensures { result ≡ ((bit_at live at == 1) && is_after (option_copied after.entry) row.now) }
@@ -74,6 +74,7 @@ fn take_pages(
     Ok(out)
 }
 
+/// Copies of the first rows above a raw id, which is looked for by halves.
 pub fn take_rows(
     alloc: Global,
     pages: &[SharedPage],
@@ -114,6 +115,7 @@ pub fn share(alloc: Global, pages: &[SharedPage]) -> Result<Vec<SharedPage>, All
     Ok(out)
 }
 
+/// Pushes a copy of a row that is live, with the next of the numbers that count from `from`.
 fn push_counted_if(out: &mut Vec<Row>, row: &Row, live: bool, from: u64) -> Result<(), AllocError>
     requires { from + length out.old.items < 2 ^ 64 }
     ensures { OnOk result (out.new.items ≡ out.old.items ++ (if live then (record row.now { seq = from + length out.old.items }) ∷ [] else [])) }

@@ -1,9 +1,8 @@
-ghost use Rattle.std.specs.Prelude.{◌≡◌, ◌==◌, ◌<◌, ◌≤◌, ◌++◌, [], ◌∷◌, length, take, drop, OnOk, OnErr, IfOk, MatchResult, MatchOption, false, IsTrue, ◌↔◌, ◌&&◌, ◌^◌, ◌≢◌, ℕ, ◌+◌, if◌then◌else◌};
+ghost use Rattle.std.specs.Prelude.{◌≡◌, ◌==◌, ◌<◌, ◌≤◌, ◌++◌, [], ◌∷◌, length, OnOk, OnErr, IfOk, MatchResult, MatchOption, false, IsTrue, ◌≢◌, ℕ, ◌+◌, if◌then◌else◌};
 ghost use Rattle.std.specs.Option.{option_copied};
-ghost use Rattle.std.specs.Int.{bit_at, bit_not};
-ghost use Rattle.std.specs.Int.RustNames.{bit_and};
-ghost use Rattle.doc_table.specs.RowLists.{IsRising, found, with_row, below, above, rows_after, is_after, counted_from, Each};
-ghost use Rattle.doc_table.specs.Pages.{live_from, page_rows, live_rows, all_rows, rows_of, IsPages, IsPageOf, IsSized};
+ghost use Rattle.std.specs.Int.{bit_at};
+ghost use Rattle.doc_table.specs.RowLists.{IsRising, found, with_row, below, above};
+ghost use Rattle.doc_table.specs.Pages.{live_from, page_rows, live_rows, IsSized};
 
 use crate::place::{place, put_at, row_at};
 use saved_doc::Row;
@@ -17,6 +16,7 @@ pub struct SharedPage {
     pub live: u64,
 }
 
+/// Whether the row at this index is live.
 pub fn is_live(live: u64, at: usize) -> bool
     requires { at < 64 }
     ensures { result ≡ (bit_at live at == 1) }
@@ -24,6 +24,7 @@ pub fn is_live(live: u64, at: usize) -> bool
     (live >> at) & 1 == 1
 }
 
+/// Pushes a copy of a row that is live.
 fn push_live(out: &mut Vec<Row>, row: &Row, live: bool) -> Result<(), AllocError>
     ensures { OnOk result (out.new.items ≡ out.old.items ++ (if live then row.now ∷ [] else [])) }
 {

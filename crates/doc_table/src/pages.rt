@@ -1,9 +1,7 @@
-ghost use Rattle.std.specs.Prelude.{◌≡◌, ◌==◌, ◌<◌, ◌≤◌, ◌++◌, [], ◌∷◌, length, take, drop, OnOk, OnErr, IfOk, MatchResult, MatchOption, false, IsTrue, ◌↔◌, ◌&&◌, ◌^◌, ◌≢◌, ℕ, ◌+◌, if◌then◌else◌};
+ghost use Rattle.std.specs.Prelude.{◌≡◌, ◌<◌, ◌++◌, [], ◌∷◌, length, OnOk, OnErr, MatchResult, MatchOption, ◌+◌};
 ghost use Rattle.std.specs.Option.{option_copied};
-ghost use Rattle.std.specs.Int.{bit_at, bit_not};
-ghost use Rattle.std.specs.Int.RustNames.{bit_and};
-ghost use Rattle.doc_table.specs.RowLists.{IsRising, found, with_row, below, above, rows_after, is_after, counted_from, Each};
-ghost use Rattle.doc_table.specs.Pages.{live_from, page_rows, live_rows, all_rows, rows_of, IsPages, IsPageOf, IsSized};
+ghost use Rattle.doc_table.specs.RowLists.{found, with_row, below, above};
+ghost use Rattle.doc_table.specs.Pages.{rows_of, IsPages, IsPageOf};
 
 use crate::page::{SharedPage, has_room, is_dead, put_alone, rewritten, without_row};
 use crate::place::compare;
@@ -115,6 +113,7 @@ pub fn put_anywhere(pages: &mut Vec<SharedPage>, row: Row) -> Result<(), AllocEr
     put_row(pages, p, row)
 }
 
+/// Makes the first page, of one row.
 fn first_page(pages: &mut Vec<SharedPage>, row: Row) -> Result<(), AllocError>
     requires { pages.old.items ≡ [] }
     ensures ok { OnOk result (rows_of pages.new.items ≡ row ∷ []) }

@@ -1,5 +1,4 @@
-ghost use Rattle.std.specs.Prelude.{◌≡◌, ◌<◌, ◌≤◌, ◌==◌, [], ◌∷◌, length, drop, true, slice_get, MatchOption, IfSome};
-ghost use Rattle.std.specs.Int.{bit_at};
+ghost use Rattle.std.specs.Prelude.{◌≡◌, ◌<◌, [], ◌∷◌, length, drop, slice_get, MatchOption, IfSome};
 ghost use Rattle.doc_table.specs.RowLists.{Each};
 ghost use Rattle.doc_table.specs.Tables.{entries, entry_of};
 ghost use Rattle.doc_table.specs.Pages.{live_from, page_rows, rows_of, rows_left, IsSized, IsLiveAt};

@@ -1,4 +1,4 @@
-ghost use Rattle.std.specs.Prelude.{◌≡◌, ◌+◌, ◌<◌, ◌^◌, [], IfOk, OnOk, OnErr, take};
+ghost use Rattle.std.specs.Prelude.{◌≡◌, ◌<◌, ◌^◌, IfOk, OnErr, take};
 ghost use Rattle.std.specs.Option.{option_copied, option_map};
 ghost use Rattle.base_model.specs.Keyed.{at};
 ghost use Rattle.race_model.specs.Stores.{empty_table, found_one, write, write as done, written, dropped, renumbered};
