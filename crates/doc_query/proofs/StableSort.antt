@@ -1,5 +1,5 @@
 -- A stable sort is an insertion sort: two lists that rise, of which each keeps the order of what ties, are equal.
-use Rattle.std.proofs.Common.{◌≡◌, ℕ, ◌+◌, ◌<◌, suc, get_or, length, Bool, true, false, ◌&&◌, not, cond, List, [], ◌∷◌, refl, sym, ap, ◌∙◌, arith}
+use Rattle.std.proofs.Common.{◌≡◌, ℕ, ◌<◌, suc, get_or, length, Bool, true, false, ◌&&◌, not, cond, List, [], ◌∷◌, refl, sym, ap, ◌∙◌, arith}
 use native.Mathlib.Numerals.{unary_clauses}
 use Rattle.std.specs.List.{filter}
 use Rattle.std.specs.List.Sorted.{IsSortedBy, IsStableBy, ties}
@@ -47,9 +47,10 @@ module _ {X : Type 0} (lt : X → X → Bool) where
 
     rises : (xs : List X) → IsSortedBy lt xs → Rises xs
     rises [] h = tt
-    rises (x ∷ xs) h =
-        (low-at x xs (λ j d small. sorted_far lt o (x ∷ xs) h 0 (suc j) d (omega arith) (omega arith)),
-        rises xs (λ k d low high. simp unary_clauses (simp unary_clauses at (h (suc k) d (omega arith) (omega arith)))))
+    rises (x ∷ xs) h = (
+      low-at x xs (λ j d small. sorted_far lt o (x ∷ xs) h 0 (suc j) d (omega arith) (omega arith)),
+      rises xs (λ k d low high. simp unary_clauses (simp unary_clauses at (h (suc k) d (omega arith) (omega arith)))),
+    )
 
     -- ---- the insertion sort rises
 

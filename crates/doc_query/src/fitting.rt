@@ -54,10 +54,8 @@ fn is_of_types(doc: &Doc, types: &List<TypeKind>, space: &Option<Space>) -> bool
 fn has_entry(doc: &Doc, types: &List<TypeKind>, space: &Option<Space>) -> bool
     ensures { result ≡ list_any (λ t. bytes_eq t.name doc.now.type_name && seen_in (option_map space_text space.now) t.kind doc.now) types.now }
 {
-    types
-        .as_slice()
-        .iter()
-        .any(|entry| entry.name.as_str() == doc.type_name() && is_seen(doc, entry.kind, space))
+    types.as_slice().iter().any(|entry| entry.name.as_str() == doc.type_name()
+        && is_seen(doc, entry.kind, space))
 }
 
 fn is_seen(doc: &Doc, kind: Kind, space: &Option<Space>) -> bool
@@ -99,10 +97,8 @@ fn refers(references: &List<Ref>, target: &Target) -> bool
 fn has_reference_to(references: &List<Ref>, target: &Target) -> bool
     ensures { result ≡ list_any (λ r. bytes_eq r.type_name target.now.type_name && bytes_eq r.id target.now.id) references.now }
 {
-    references
-        .as_slice()
-        .iter()
-        .any(|r| r.type_name.as_str() == target.type_name.as_str() && r.id.as_str() == target.id.as_str())
+    references.as_slice().iter().any(|r| r.type_name.as_str() == target.type_name.as_str()
+        && r.id.as_str() == target.id.as_str())
 }
 
 #[tactic(auto, unfolding(base_model::specs::Keyed::same))]
@@ -110,7 +106,8 @@ fn has_origin(raw: &Text, doc: &Doc, origin: &Option<Text>) -> bool
     ensures { result ≡ if_given origin.now (λ o. origin_is o doc.now.origin || same o (id_in raw.now doc.now)) }
 {
     match origin {
-        Some(origin) => is_origin(doc, origin.as_str()) || origin.as_str() == id_of(raw.as_str(), doc),
+        Some(origin) => is_origin(doc, origin.as_str())
+            || origin.as_str() == id_of(raw.as_str(), doc),
         None => true,
     }
 }
@@ -134,10 +131,8 @@ fn is_outdated(doc: &Doc, types: &List<TypeVer>) -> bool
 fn has_older_stamp(doc: &Doc, types: &List<TypeVer>) -> bool
     ensures { result ≡ list_any (λ t. bytes_eq t.name doc.now.type_name && below doc.now.stamp t.latest) types.now }
 {
-    types
-        .as_slice()
-        .iter()
-        .any(|entry| entry.name.as_str() == doc.type_name() && is_older(&doc.stamp, entry.latest))
+    types.as_slice().iter().any(|entry| entry.name.as_str() == doc.type_name()
+        && is_older(&doc.stamp, entry.latest))
 }
 
 fn is_older(stamp: &Option<Ver>, latest: Ver) -> bool

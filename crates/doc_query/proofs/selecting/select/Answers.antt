@@ -1,4 +1,4 @@
-use Rattle.std.proofs.Common.{◌≡◌, ℕ, ◌+◌, ◌≤◌, List, [], ◌∷◌, ◌++◌, length, drop, take, append-nil, sym, ap, subst, ◌∙◌}
+use Rattle.std.proofs.Common.{◌≡◌, ◌+◌, List, [], ◌∷◌, ◌++◌, length, drop, append-nil, sym, ap, subst, ◌∙◌}
 use Rattle.std.specs.Result.{IfOk}
 use Rattle.std.proofs.lemmas.List.{drop_more, drop_all}
 use Rattle.race_model.specs.Stores.{Rows}
@@ -24,7 +24,7 @@ returns-clause-total c =
     let rows = c.args.rows.now in
     let none : drop c.loop-row.row-index rows ≡ [] = drop_all c.loop-row.row-index rows c.loop-row-test.false in
     let all = sym (append-nil c.loop-row.selection)
-        ∙ ap (λ (l : List Row). c.loop-row.selection ++ chosen holds_of (query_of c.args.query.now) (cells_of l)) (sym none) ∙ c.loop-row.invariant in
+    ∙ ap (λ (l : List Row). c.loop-row.selection ++ chosen holds_of (query_of c.args.query.now) (cells_of l)) (sym none) ∙ c.loop-row.invariant in
     subst (λ (chosen_rows : Rows (Doc Js)). IfOk c.finish.result (λ s. s.total ≡ length chosen_rows)) all c.finish.ensures.total
 
 pub returns-clause-rows : goal.returns-clause-rows
@@ -34,5 +34,5 @@ returns-clause-rows c =
     let q = query_of c.args.query.now in
     let none : drop c.loop-row.row-index rows ≡ [] = drop_all c.loop-row.row-index rows c.loop-row-test.false in
     let all = sym (append-nil c.loop-row.selection)
-        ∙ ap (λ (l : List Row). c.loop-row.selection ++ chosen holds_of (query_of c.args.query.now) (cells_of l)) (sym none) ∙ c.loop-row.invariant in
+    ∙ ap (λ (l : List Row). c.loop-row.selection ++ chosen holds_of (query_of c.args.query.now) (cells_of l)) (sym none) ∙ c.loop-row.invariant in
     subst (λ (chosen_rows : Rows (Doc Js)). IfOk c.finish.result (λ s. cells_of s.rows ≡ limited q.limit (drop q.skip (in_order q.sort q.descending chosen_rows)))) all c.finish.ensures.rows

@@ -1,4 +1,4 @@
-use Rattle.std.proofs.Common.{◌≡◌, List, ◌∷◌, ◌++◌, Bor, sym, ap, ◌∙◌}
+use Rattle.std.proofs.Common.{List, ◌∷◌, ◌++◌, Bor, sym, ap, ◌∙◌}
 use Rattle.race_model.specs.Stores.{Rows}
 use Rattle.document_model.specs.Documents.{Doc}
 use Rattle.so_js.specs.declared.js.Js.{Js}
