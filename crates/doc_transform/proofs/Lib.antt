@@ -1,3 +1,4 @@
 pub mod StepLaws
 pub mod IdLaws
 pub mod ObjectLaws
+pub mod ShareLaws

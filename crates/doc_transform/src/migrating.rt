@@ -7,7 +7,7 @@ ghost use Rattle.doc_transform.specs.Transforming.{effects, pairs_of, outcome_of
 use crate::ids::{fits, is_too_new};
 use crate::lifting::apply_to_object;
 use crate::outcome::{Migrated, Output};
-use crate::sharing::{one, output, share};
+use crate::sharing::{copied_text, one, output, share};
 use document_model::{Ref, is_missing_or_below};
 use plain_data::{List, Text};
 use saved_doc::Doc;
@@ -71,11 +71,13 @@ fn outputs_of(
 {
     let lifted = lifted_doc(alloc, reg, doc)?;
     if became_shareable(reg, doc.type_name(), doc.stamp) {
-        share(alloc, reg.version(), raw, lifted)
+        let all = share(alloc, reg.version(), raw, lifted)?;
+        Ok(all)
     } else {
         let raw = Text::from_str(alloc, raw)?;
         let first = output(alloc, raw, lifted)?;
-        one(alloc, first)
+        let all = one(alloc, first)?;
+        Ok(all)
     }
 }
 
@@ -129,13 +131,6 @@ fn copied_spaces(spaces: &Option<List<Text>>) -> Result<Option<List<Text>>, Allo
     ensures { IfOk result (λ copy. copy ≡ spaces.now) }
 {
     let copy = spaces.clone()?;
-    Ok(copy)
-}
-
-fn copied_text(text: &Option<Text>) -> Result<Option<Text>, AllocError>
-    ensures { IfOk result (λ copy. copy ≡ text.now) }
-{
-    let copy = text.clone()?;
     Ok(copy)
 }
 

@@ -1,8 +1,8 @@
 ghost use Rattle.std.specs.Prelude.{◌≡◌, ◌∷◌, [], IfOk, Some, None, true};
-ghost use Rattle.document_model.specs.Documents.{joined, default_space};
+ghost use Rattle.document_model.specs.Documents.{joined, default_space, id_of as id_of_row};
 ghost use Rattle.document_model.specs.Migrations.{shared_over, shared_doc, alias_raw as raw_of_alias};
 ghost use Rattle.base_model.specs.Keyed.{Text};
-ghost use Rattle.share_ids.specs.Ids.{alias_doc as doc_of_alias};
+ghost use Rattle.share_ids.specs.Ids.{alias_doc as doc_of_alias, new_id as id_of_object};
 ghost use Rattle.version_token.specs.declared.Ver.{Ver};
 ghost use Rattle.doc_transform.specs.Transforming.{effects, pair_of, pairs_of, started, all_of, changed_over};
 
@@ -26,7 +26,10 @@ pub(crate) fn share(
 {
     match space_of(alloc, &doc)? {
         Some(space) => share_in(alloc, version, space, raw, doc),
-        None => share_in_default(alloc, raw, doc),
+        None => {
+            let all = share_in_default(alloc, raw, doc)?;
+            Ok(all)
+        }
     }
 }
 
@@ -51,23 +54,42 @@ fn share_in(
 ) -> Result<List<Output>, AllocError>
     ensures { IfOk result (λ all. pairs_of all ≡ all_of (shared_over effects version (Some space) (started raw.now doc))) }
 {
-    let old = Text::from_str(alloc, id_of(raw, &doc))?;
-    let new = new_id(alloc, space.as_str(), doc.type_name(), old.as_str())?;
+    let old = old_id(alloc, raw, &doc)?;
+    let new = id_in(alloc, &space, &doc, &old)?;
     let alias = alias_of(alloc, version, &space, &doc, &old, &new)?;
-    let raw = raw_of(alloc, doc.type_name(), new.as_str())?;
-    let spaces = only(alloc, space)?;
-    let first = output(alloc, raw, lying_in(doc, spaces, Some(old)))?;
-    both(alloc, first, alias)
+    let raw = raw_of(alloc, &doc, &new)?;
+    let shared = lying_in(alloc, doc, space, Some(old))?;
+    let first = output(alloc, raw, shared)?;
+    let all = both(alloc, first, alias)?;
+    Ok(all)
 }
 
 fn share_in_default(alloc: Global, raw: &str, doc: Doc) -> Result<List<Output>, AllocError>
-    ensures { IfOk result (λ all. (version : Ver) → pairs_of all ≡ all_of (shared_over effects version None (started raw.now doc))) }
+    ensures { IfOk result (λ all. pairs_of all ≡ (raw.now, shared_doc doc default_space doc.origin) ∷ []) }
 {
-    let spaces = only(alloc, Text::from_str(alloc, "default")?)?;
+    let space = Text::from_str(alloc, "default")?;
     let raw = Text::from_str(alloc, raw)?;
-    let origin = doc.origin.clone()?;
-    let first = output(alloc, raw, lying_in(doc, spaces, origin))?;
-    one(alloc, first)
+    let origin = copied_text(&doc.origin)?;
+    let shared = lying_in(alloc, doc, space, origin)?;
+    let first = output(alloc, raw, shared)?;
+    let all = one(alloc, first)?;
+    Ok(all)
+}
+
+/// The id that a document had.
+fn old_id(alloc: Global, raw: &str, doc: &Doc) -> Result<Text, AllocError>
+    ensures { IfOk result (λ old. old ≡ id_of_row raw.now doc.now) }
+{
+    let id = Text::from_str(alloc, id_of(raw, doc))?;
+    Ok(id)
+}
+
+/// The id that a document of a space gets.
+fn id_in(alloc: Global, space: &Text, doc: &Doc, old: &Text) -> Result<Text, AllocError>
+    ensures { IfOk result (λ new. new ≡ id_of_object space.now doc.now.type_name old.now) }
+{
+    let id = new_id(alloc, space.as_str(), doc.type_name(), old.as_str())?;
+    Ok(id)
 }
 
 /// The document that leads from the old id to the new one.
@@ -95,29 +117,37 @@ fn alias_of(
 }
 
 /// The raw id of an object that lies in no space of its own.
-fn raw_of(alloc: Global, name: &str, id: &str) -> Result<Text, AllocError>
-    ensures { IfOk result (λ raw. raw ≡ joined name.now id.now) }
+fn raw_of(alloc: Global, doc: &Doc, id: &Text) -> Result<Text, AllocError>
+    ensures { IfOk result (λ raw. raw ≡ joined doc.now.type_name id.now) }
 {
+    let name = doc.type_name();
+    let id = id.as_str();
     let raw = format!(in alloc; "{name}:{id}")?;
     Ok(Text::from_string(raw))
 }
 
-fn only(alloc: Global, text: Text) -> Result<List<Text>, AllocError>
-    ensures { IfOk result (λ all. all ≡ text ∷ []) }
+/// The document in a list of one space.
+fn lying_in(
+    alloc: Global,
+    mut doc: Doc,
+    space: Text,
+    origin: Option<Text>,
+) -> Result<Doc, AllocError>
+    ensures { IfOk result (λ d. d ≡ shared_doc doc space origin) }
 {
-    let mut all = List::new(alloc);
-    all.push(text)?;
-    Ok(all)
-}
-
-/// The document in a list of spaces.
-fn lying_in(mut doc: Doc, spaces: List<Text>, origin: Option<Text>) -> Doc
-    ensures { (space : Text) → spaces ≡ space ∷ [] → result ≡ shared_doc doc space origin }
-{
+    let mut spaces = List::new(alloc);
+    spaces.push(space)?;
     doc.namespace = None;
     doc.namespaces = Some(spaces);
     doc.origin = origin;
-    doc
+    Ok(doc)
+}
+
+pub(crate) fn copied_text(text: &Option<Text>) -> Result<Option<Text>, AllocError>
+    ensures { IfOk result (λ copy. copy ≡ text.now) }
+{
+    let copy = text.clone()?;
+    Ok(copy)
 }
 
 pub(crate) fn output(alloc: Global, raw: Text, doc: Doc) -> Result<Output, AllocError>
