@@ -1,5 +1,5 @@
 -- The outputs of a document whose id changes, part by part.
-use Rattle.std.proofs.Common.{◌≡◌, List, [], ◌∷◌, Option, Some, None, refl}
+use Rattle.std.proofs.Common.{◌≡◌, List, [], ◌∷◌, Option, Some, None, true, refl}
 use Rattle.base_model.specs.Keyed.{Text}
 use Rattle.document_model.specs.Documents.{Doc, joined, default_space, id_of}
 use Rattle.document_model.specs.Migrations.{shared_over, shared_doc, alias_raw}

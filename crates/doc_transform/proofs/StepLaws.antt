@@ -35,7 +35,7 @@ share-with_ops version (Some s) ops m = refl
 steps-only : (version : Ver) (stamp : Option Ver) (steps : List (Ver × List Op)) (m : Moved Js) → all_steps effects version (above stamp (only_ops steps)) m ≡ with_ops (ops_above stamp steps) m
 steps-only version stamp [] m = refl
 steps-only version stamp (s ∷ steps) m = elim (cases_Bool (below stamp s.0)) [
-  | inl yes ↦ rw yes (steps-only version stamp steps (with_ops s.1 m) ∙ with_ops-append s.1 (ops_above stamp steps) m)
+  | inl holds ↦ rw holds (steps-only version stamp steps (with_ops s.1 m) ∙ with_ops-append s.1 (ops_above stamp steps) m)
   | inr other ↦ rw other (steps-only version stamp steps m)
 ]
 
@@ -51,7 +51,7 @@ shared_if-with_ops false version ops m = refl
 steps-behind : (version v : Ver) (stamp : Option Ver) (steps : List (Ver × List Op)) (m : Moved Js)
     → all_steps effects version (above stamp ((v, Share) ∷ only_ops steps)) m ≡ with_ops (ops_above stamp steps) (shared_if (below stamp v) version m)
 steps-behind version v stamp steps m = elim (cases_Bool (below stamp v)) [
-  | inl yes ↦ rw yes (steps-only version stamp steps (shared_over effects version m.doc.namespace m))
+  | inl holds ↦ rw holds (steps-only version stamp steps (shared_over effects version m.doc.namespace m))
   | inr other ↦ rw other (steps-only version stamp steps m)
 ]
 
@@ -61,8 +61,8 @@ steps-share : (version v : Ver) (stamp : Option Ver) (steps : List (Ver × List 
 steps-share version v stamp [] m = steps-behind version v stamp [] m
 steps-share version v stamp (s ∷ steps) m = elim (cases_Bool (ver_lt s.0 v)) [
   | inl earlier ↦ elim (cases_Bool (below stamp s.0)) [
-    | inl yes ↦
-        rw (earlier, yes) (steps-share version v stamp steps (with_ops s.1 m)
+    | inl holds ↦
+        rw (earlier, holds) (steps-share version v stamp steps (with_ops s.1 m)
         ∙ ap (with_ops (ops_above stamp steps)) (shared_if-with_ops (below stamp v) version s.1 m)
         ∙ with_ops-append s.1 (ops_above stamp steps) (shared_if (below stamp v) version m))
     | inr other ↦ rw (earlier, other) (steps-share version v stamp steps m)
@@ -112,36 +112,36 @@ became-is (Some t) core = by_shareable t.shareable_at refl
 
 -- ---- the outcome, case by case
 
-pub out-removed : (reg : Registry Op) (raw : Text) (doc : Doc Js) → lists doc.type_name reg.removed ≡ true → IsRemoved ≡ outcome effects reg raw doc
+pub out_removed : (reg : Registry Op) (raw : Text) (doc : Doc Js) → lists doc.type_name reg.removed ≡ true → IsRemoved ≡ outcome effects reg raw doc
 unfolding outcome
-out-removed reg raw doc is = rw is refl
+out_removed reg raw doc is = rw is refl
 
-pub out-listed : (reg : Registry Op) (raw : Text) (doc : Doc Js) → lists doc.type_name reg.removed ≡ false → outcome effects reg raw doc ≡ outcome_known effects reg (known reg doc.type_name) raw doc
+pub out_listed : (reg : Registry Op) (raw : Text) (doc : Doc Js) → lists doc.type_name reg.removed ≡ false → outcome effects reg raw doc ≡ outcome_known effects reg (known reg doc.type_name) raw doc
 unfolding outcome
-out-listed reg raw doc is = rw is refl
+out_listed reg raw doc is = rw is refl
 
-pub out-unknown : (reg : Registry Op) (found : Option (Known Op)) (raw : Text) (doc : Doc Js) → None ≡ option_map (λ t. t.kind) found → IsUnknown ≡ outcome_known effects reg found raw doc
-out-unknown reg None raw doc is = refl
-out-unknown reg (Some t) raw doc is = cc is
+pub out_unknown : (reg : Registry Op) (found : Option (Known Op)) (raw : Text) (doc : Doc Js) → None ≡ option_map (λ t. t.kind) found → IsUnknown ≡ outcome_known effects reg found raw doc
+out_unknown reg None raw doc is = refl
+out_unknown reg (Some t) raw doc is = cc is
 
-pub out-new : (reg : Registry Op) (found : Option (Known Op)) (kind : Kind) (raw : Text) (doc : Doc Js) → Some kind ≡ option_map (λ t. t.kind) found
+pub out_new : (reg : Registry Op) (found : Option (Known Op)) (kind : Kind) (raw : Text) (doc : Doc Js) → Some kind ≡ option_map (λ t. t.kind) found
     → too_new doc.stamp (option_and_then latest found) ≡ true → IsTooNew ≡ outcome_known effects reg found raw doc
-out-new reg None kind raw doc is new = cc is
-out-new reg (Some t) kind raw doc is new = rw new refl
+out_new reg None kind raw doc is new = cc is
+out_new reg (Some t) kind raw doc is new = rw new refl
 
-pub out-corrupt : (reg : Registry Op) (found : Option (Known Op)) (kind : Kind) (raw : Text) (doc : Doc Js) → Some kind ≡ option_map (λ t. t.kind) found
+pub out_corrupt : (reg : Registry Op) (found : Option (Known Op)) (kind : Kind) (raw : Text) (doc : Doc Js) → Some kind ≡ option_map (λ t. t.kind) found
     → too_new doc.stamp (option_and_then latest found) ≡ false → fits_kind kind (option_and_then (λ t. t.shareable_at) found) raw doc ≡ false → IsCorrupt ≡ outcome_known effects reg found raw doc
-out-corrupt reg None kind raw doc is old unfit = cc is
-out-corrupt reg (Some t) kind raw doc is old unfit =
+out_corrupt reg None kind raw doc is old unfit = cc is
+out_corrupt reg (Some t) kind raw doc is old unfit =
     let own : kind ≡ t.kind = cc is in
     let misfit : fits_kind t.kind t.shareable_at raw doc ≡ false = ap (λ (k : Kind). fits_kind k t.shareable_at raw doc) (sym own) ∙ unfit in
     rw (old, misfit) refl
 
-pub out-outputs : (reg : Registry Op) (found : Option (Known Op)) (kind : Kind) (raw : Text) (doc : Doc Js) → Some kind ≡ option_map (λ t. t.kind) found
+pub out_outputs : (reg : Registry Op) (found : Option (Known Op)) (kind : Kind) (raw : Text) (doc : Doc Js) → Some kind ≡ option_map (λ t. t.kind) found
     → too_new doc.stamp (option_and_then latest found) ≡ false → fits_kind kind (option_and_then (λ t. t.shareable_at) found) raw doc ≡ true
     → HasOutputs (changed_over (shares_over (option_and_then (λ t. t.shareable_at) found) doc.stamp) reg.version raw (lifted_doc reg found doc)) ≡ outcome_known effects reg found raw doc
-out-outputs reg None kind raw doc is old fit = cc is
-out-outputs reg (Some t) kind raw doc is old fit =
+out_outputs reg None kind raw doc is old fit = cc is
+out_outputs reg (Some t) kind raw doc is old fit =
     let own : kind ≡ t.kind = cc is in
     let fitting : fits_kind t.kind t.shareable_at raw doc ≡ true = ap (λ (k : Kind). fits_kind k t.shareable_at raw doc) (sym own) ∙ fit in
     rw (old, fitting) (ap HasOutputs (sym (outputs-are reg t raw doc)))

@@ -34,7 +34,10 @@ pub fn migrate(
         return Ok(Migrated::Removed);
     }
     match reg.kind_of(doc.type_name()) {
-        Some(kind) => migrate_known(alloc, reg, kind, raw, doc),
+        Some(kind) => {
+            let migrated = migrate_known(alloc, reg, kind, raw, doc)?;
+            Ok(migrated)
+        }
         None => Ok(Migrated::Unknown),
     }
 }

@@ -69,7 +69,7 @@ fn share_in_default(alloc: Global, raw: &str, doc: Doc) -> Result<List<Output>, 
 {
     let space = Text::from_str(alloc, "default")?;
     let raw = Text::from_str(alloc, raw)?;
-    let origin = copied_text(&doc.origin)?;
+    let origin = origin_of(&doc)?;
     let shared = lying_in(alloc, doc, space, origin)?;
     let first = output(alloc, raw, shared)?;
     let all = one(alloc, first)?;
@@ -141,6 +141,13 @@ fn lying_in(
     doc.namespaces = Some(spaces);
     doc.origin = origin;
     Ok(doc)
+}
+
+fn origin_of(doc: &Doc) -> Result<Option<Text>, AllocError>
+    ensures { IfOk result (λ copy. copy ≡ doc.now.origin) }
+{
+    let copy = copied_text(&doc.origin)?;
+    Ok(copy)
 }
 
 pub(crate) fn copied_text(text: &Option<Text>) -> Result<Option<Text>, AllocError>
