@@ -1,6 +1,5 @@
 -- A list that a loop builds, one element further.
-use Rattle.std.proofs.Common.{◌≡◌, ℕ, ◌+◌, ◌<◌, List, [], ◌∷◌, ◌++◌, map, take, length, sym, ap, ◌∙◌}
-use Rattle.std.proofs.Math.Option.{get_or}
+use Rattle.std.proofs.Common.{◌≡◌, ℕ, ◌+◌, ◌<◌, List, [], ◌∷◌, ◌++◌, map, take, length, sym, ap, ◌∙◌, get_or}
 use Rattle.std.proofs.lemmas.List.{map_more}
 
 pub push-mapped : {X Y : Type 0} (f : X → Y) (xs : List X) (i : ℕ) (d : X) (all new : List Y) (y : Y)
