@@ -1,7 +1,8 @@
 ghost use Rattle.std.specs.Prelude.{◌≡◌, IfOk, Some, option_map, option_and_then, map};
 ghost use Rattle.base_model.specs.Outcomes.{Outcome};
 ghost use Rattle.document_model.specs.Migrations.{moved_refs, moved_ref, outcome, outcome_known, became_shareable as became};
-ghost use Rattle.document_model.specs.Registries.{known};
+ghost use Rattle.document_model.specs.Registries.{known, latest, too_new, fits_kind};
+ghost use Rattle.document_model.specs.Documents.{lists as is_listed};
 ghost use Rattle.doc_transform.specs.Transforming.{effects, pairs_of, outcome_of, changed_over, shares_over, lifted_doc as doc_lifted};
 
 use crate::ids::{fits, is_too_new};
@@ -30,10 +31,10 @@ pub fn migrate(
 ) -> Result<Migrated, AllocError>
     ensures { IfOk result (λ m. outcome_of m ≡ outcome effects reg.now raw.now doc.now) }
 {
-    if reg.is_removed(doc.type_name()) {
+    if has_removed_type(reg, doc) {
         return Ok(Migrated::Removed);
     }
-    match reg.kind_of(doc.type_name()) {
+    match kind_of(reg, doc) {
         Some(kind) => {
             let migrated = migrate_known(alloc, reg, kind, raw, doc)?;
             Ok(migrated)
@@ -52,14 +53,38 @@ fn migrate_known(
     requires { Some kind ≡ option_map (λ t. t.kind) (known reg.now doc.now.type_name) }
     ensures { IfOk result (λ m. outcome_of m ≡ outcome_known effects reg.now (known reg.now doc.now.type_name) raw.now doc.now) }
 {
-    if is_too_new(doc.stamp, reg.latest_of(doc.type_name())) {
+    if is_newer(reg, doc) {
         return Ok(Migrated::TooNew);
     }
-    if !fits(kind, reg.shareable_at(doc.type_name()), raw, doc) {
+    if !fits_registry(reg, kind, raw, doc) {
         return Ok(Migrated::Corrupt);
     }
     let outputs = outputs_of(alloc, reg, raw, doc)?;
     Ok(Migrated::Outputs(outputs))
+}
+
+fn has_removed_type(reg: &Registry, doc: &Doc) -> bool
+    ensures { result ≡ is_listed doc.now.type_name reg.now.removed }
+{
+    reg.is_removed(doc.type_name())
+}
+
+fn kind_of(reg: &Registry, doc: &Doc) -> Option<Kind>
+    ensures { result ≡ option_map (λ t. t.kind) (known reg.now doc.now.type_name) }
+{
+    reg.kind_of(doc.type_name())
+}
+
+fn is_newer(reg: &Registry, doc: &Doc) -> bool
+    ensures { result ≡ too_new doc.now.stamp (option_and_then latest (known reg.now doc.now.type_name)) }
+{
+    is_too_new(doc.stamp, reg.latest_of(doc.type_name()))
+}
+
+fn fits_registry(reg: &Registry, kind: Kind, raw: &str, doc: &Doc) -> bool
+    ensures { result ≡ fits_kind kind (option_and_then (λ t. t.shareable_at) (known reg.now doc.now.type_name)) raw.now doc.now }
+{
+    fits(kind, reg.shareable_at(doc.type_name()), raw, doc)
 }
 
 fn outputs_of(
