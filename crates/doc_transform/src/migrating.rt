@@ -23,12 +23,7 @@ use version_token::Ver;
 /// stamp is above the latest version of its type, or there is no latest version; `Corrupt` where it
 /// doesn't fit its raw id; else its outputs. Of these the document itself comes first, and where
 /// its id changed the alias document of the old one follows.
-pub fn migrate(
-    alloc: Global,
-    reg: &Registry,
-    raw: &str,
-    doc: &Doc,
-) -> Result<Migrated, AllocError>
+pub fn migrate(alloc: Global, reg: &Registry, raw: &str, doc: &Doc) -> Result<Migrated, AllocError>
     ensures { IfOk result (λ m. outcome_of m ≡ outcome effects reg.now raw.now doc.now) }
 {
     if has_removed_type(reg, doc) {
@@ -95,7 +90,7 @@ fn outputs_of(
 ) -> Result<List<Output>, AllocError>
     ensures { IfOk result (λ all. pairs_of all
         ≡ changed_over (shares_over (option_and_then (λ t. t.shareable_at) (known reg.now doc.now.type_name)) doc.now.stamp)
-            reg.now.version raw.now (doc_lifted reg.now (known reg.now doc.now.type_name) doc.now)) }
+        reg.now.version raw.now (doc_lifted reg.now (known reg.now doc.now.type_name) doc.now)) }
 {
     let lifted = lifted_doc(alloc, reg, doc)?;
     if became_shareable(reg, doc.type_name(), doc.stamp) {
@@ -171,11 +166,7 @@ fn copied_references(references: &List<Ref>) -> Result<List<Ref>, AllocError>
 
 /// The references of a document. In one with a space of its own, those to objects that became
 /// shareable since it was written get their new ids.
-fn moved_references(
-    alloc: Global,
-    reg: &Registry,
-    doc: &Doc,
-) -> Result<List<Ref>, AllocError>
+fn moved_references(alloc: Global, reg: &Registry, doc: &Doc) -> Result<List<Ref>, AllocError>
     ensures { IfOk result (λ refs. refs ≡ moved_refs effects reg.now doc.now.namespace doc.now.core doc.now.references) }
 {
     match &doc.namespace {

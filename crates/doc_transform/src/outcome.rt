@@ -1,8 +1,6 @@
-use plain_data::Text;
+use plain_data::{List, Text};
 use saved_doc::SharedDoc;
 use so_js::Js;
-
-use plain_data::List;
 
 /// What migrating one document gives.
 #[derive(Debug, Drop)]

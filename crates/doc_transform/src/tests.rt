@@ -19,7 +19,8 @@ const REGISTRY: &str = r#"{"version":"7.12.0","removed":["old"],"types":[
         {"version":"7.12.0","ops":[{"op":"wrapList","key":"n"}]}]}]}"#;
 
 // A raw id, a document, and what migrating gives: a word, or raw ids and documents in turn.
-const ROWS: &str = r#"map:m {"type":"map","map":{"b":1,"c":2},"typeMigrationVersion":"7.10.0"} map:m {"coreMigrationVersion":"7.12.0","map":{"c":2},"references":[],"type":"map","typeMigrationVersion":"7.11.0"}
+const ROWS: &str =
+    r#"map:m {"type":"map","map":{"b":1,"c":2},"typeMigrationVersion":"7.10.0"} map:m {"coreMigrationVersion":"7.12.0","map":{"c":2},"references":[],"type":"map","typeMigrationVersion":"7.11.0"}
 map:m {"type":"map","map":{"a":1,"c":2}} map:m {"coreMigrationVersion":"7.12.0","map":{"c":2},"references":[],"type":"map","typeMigrationVersion":"7.11.0"}
 map:m {"type":"map","map":{},"typeMigrationVersion":"7.11.1"} TooNew
 a:map:m {"type":"map","map":{},"typeMigrationVersion":"7.10.0"} Corrupt
