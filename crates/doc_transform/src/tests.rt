@@ -1,0 +1,169 @@
+ghost use Rattle.std.specs.Prelude.{◌≡◌, IfOk, true};
+ghost use Rattle.so_js.specs.Tree.{is_sound};
+
+use crate::{Lifted, Migrated, lift, migrate};
+use saved_doc::{Doc, from_owned_js, to_js};
+use so_js::{Js, parse, print};
+use std::alloc::{AllocError, Global};
+use std::test::Fail;
+use type_registry::Registry;
+use version_token::Ver;
+
+const REGISTRY: &str = r#"{"version":"7.12.0","removed":["old"],"types":[
+    {"name":"map","kind":"single","migrations":[
+        {"version":"7.10.0","ops":[{"op":"rename","from":"a","to":"b"}]},
+        {"version":"7.11.0","ops":[{"op":"remove","key":"b"}]}]},
+    {"name":"visualization","kind":"single"},
+    {"name":"dashboard","kind":"multiple-isolated","shareableAt":"7.12.0","migrations":[
+        {"version":"7.11.0","ops":[{"op":"setDefault","key":"n","value":1}]},
+        {"version":"7.12.0","ops":[{"op":"wrapList","key":"n"}]}]}]}"#;
+
+// A raw id, a document, and what migrating gives: a word, or raw ids and documents in turn.
+const ROWS: &str =
+    r#"map:m {"type":"map","map":{"b":1,"c":2},"typeMigrationVersion":"7.10.0"} map:m {"coreMigrationVersion":"7.12.0","map":{"c":2},"references":[],"type":"map","typeMigrationVersion":"7.11.0"}
+map:m {"type":"map","map":{"a":1,"c":2}} map:m {"coreMigrationVersion":"7.12.0","map":{"c":2},"references":[],"type":"map","typeMigrationVersion":"7.11.0"}
+map:m {"type":"map","map":{},"typeMigrationVersion":"7.11.1"} TooNew
+a:map:m {"type":"map","map":{},"typeMigrationVersion":"7.10.0"} Corrupt
+map: {"type":"map","map":{}} Corrupt
+map:m {"type":"map","map":{},"namespaces":["a"]} Corrupt
+visualization:v {"type":"visualization","visualization":{},"typeMigrationVersion":"0.0.0"} TooNew
+old:o {"type":"old","old":{},"typeMigrationVersion":"9.0.0"} Removed
+tag:t {"type":"tag","tag":{}} Unknown
+a:dashboard:d1 {"type":"dashboard","dashboard":{},"namespace":"a","originId":"o"} dashboard:375c7f0f-7ee6-5a0e-9ea1-9626e77ff0ff {"coreMigrationVersion":"7.12.0","dashboard":{"n":[1]},"namespaces":["a"],"originId":"d1","references":[],"type":"dashboard","typeMigrationVersion":"7.12.0"} legacy-url-alias:a:dashboard:d1 {"coreMigrationVersion":"7.12.0","legacy-url-alias":{"sourceId":"d1","targetId":"375c7f0f-7ee6-5a0e-9ea1-9626e77ff0ff","targetNamespace":"a","targetType":"dashboard"},"references":[],"type":"legacy-url-alias"}
+dashboard:d1 {"type":"dashboard","dashboard":{"n":[]},"typeMigrationVersion":"7.11.0","originId":"o"} dashboard:d1 {"coreMigrationVersion":"7.12.0","dashboard":{"n":[]},"namespaces":["default"],"originId":"o","references":[],"type":"dashboard","typeMigrationVersion":"7.12.0"}
+dashboard:d1 {"type":"dashboard","dashboard":{},"typeMigrationVersion":"7.12.0"} Corrupt
+a:visualization:v1 {"type":"visualization","visualization":{},"namespace":"a","coreMigrationVersion":"7.11.0","references":[{"id":"d1","name":"x","type":"dashboard"},{"id":"m","name":"y","type":"map"}]} a:visualization:v1 {"coreMigrationVersion":"7.12.0","namespace":"a","references":[{"id":"375c7f0f-7ee6-5a0e-9ea1-9626e77ff0ff","name":"x","type":"dashboard"},{"id":"m","name":"y","type":"map"}],"type":"visualization","visualization":{}}
+a:visualization:v1 {"type":"visualization","visualization":{},"namespace":"a","coreMigrationVersion":"7.12.0","references":[{"id":"d1","name":"x","type":"dashboard"}]} a:visualization:v1 {"coreMigrationVersion":"7.12.0","namespace":"a","references":[{"id":"d1","name":"x","type":"dashboard"}],"type":"visualization","visualization":{}}
+legacy-url-alias:x {"type":"legacy-url-alias","legacy-url-alias":{}} legacy-url-alias:x {"coreMigrationVersion":"7.12.0","legacy-url-alias":{},"references":[],"type":"legacy-url-alias"}"#;
+
+fn tree(alloc: Global, text: &str) -> Result<Js, AllocError>
+    ensures { IfOk result (λ js. is_sound js ≡ true) }
+{
+    match parse(alloc, text.as_bytes(), 64) {
+        Ok(js) => Ok(js),
+        Err(_) => Err(AllocError),
+    }
+}
+
+fn registry(alloc: Global, text: &str) -> Result<Registry, AllocError> {
+    let js = tree(alloc, text)?;
+    match Registry::read(alloc, &js) {
+        Ok(reg) => Ok(reg),
+        Err(_) => Err(AllocError),
+    }
+}
+
+fn document(alloc: Global, text: &str) -> Result<Doc, AllocError> {
+    let js = tree(alloc, text)?;
+    match from_owned_js(alloc, js) {
+        Ok(doc) => Ok(doc),
+        Err(_) => Err(AllocError),
+    }
+}
+
+fn told(alloc: Global, migrated: &Migrated) -> Result<Vec<u8>, AllocError> {
+    let outputs = match migrated {
+        Migrated::Outputs(outputs) => outputs,
+        Migrated::TooNew => return Vec::from_slice(alloc, b"TooNew"),
+        Migrated::Corrupt => return Vec::from_slice(alloc, b"Corrupt"),
+        Migrated::Unknown => return Vec::from_slice(alloc, b"Unknown"),
+        Migrated::Removed => return Vec::from_slice(alloc, b"Removed"),
+    };
+    let mut told = Vec::new(alloc);
+    for output in outputs.as_slice() {
+        if !told.is_empty() {
+            told.push(b' ')?;
+        }
+        told.extend_from_slice(output.raw.as_bytes())?;
+        told.push(b' ')?;
+        let js = to_js(alloc, output.doc.get())?;
+        told.extend_from_slice(print(alloc, &js)?.as_slice())?;
+    }
+    Ok(told)
+}
+
+#[test]
+fn migrates(rt: HostRuntime) -> Result<(), Fail> {
+    let reg = registry(rt.alloc(), REGISTRY)?;
+    for row in ROWS.lines() {
+        let (raw, rest) = row.split_once(' ').ok_or("a document")?;
+        let (text, want) = rest.split_once(' ').ok_or("an outcome")?;
+        let doc = document(rt.alloc(), text)?;
+        let migrated = migrate(rt.alloc(), &reg, raw, &doc)?;
+        let got = told(rt.alloc(), &migrated)?;
+        assert_eq!(rt; got.as_slice(), want.as_bytes(), "{row}");
+    }
+    Ok(())
+}
+
+#[test]
+fn lifts(rt: HostRuntime) -> Result<(), Fail> {
+    let reg = registry(
+        rt.alloc(),
+        r#"{"version":"7.12.0","types":[{"name":"map","kind":"single","migrations":[{"version":"7.11.0","ops":[
+            {"op":"rename","from":"title","to":"name"},{"op":"wrapList","key":"n"},{"op":"moveInto","key":"n","into":"meta"},
+            {"op":"setDefault","key":"v","value":0},{"op":"mapText","key":"name","table":{"x":"y"}}]}]}]}"#,
+    )?;
+    let given = r#"{"n":1,"title":"x"}"#;
+    let cases = [
+        (0, Some(r#"{"meta":{"n":[1]},"name":"y","v":0}"#)),
+        (11, Some(given)),
+        (12, None),
+    ];
+    for (minor, want) in cases {
+        let stamp = Some(Ver {
+            major: 7,
+            minor,
+            patch: 0,
+        });
+        let attributes = tree(rt.alloc(), given)?;
+        match lift(rt.alloc(), &reg, "map", stamp, attributes)? {
+            Lifted::Attributes(js) => {
+                let printed = print(rt.alloc(), &js)?;
+                assert_eq!(rt; Some(printed.as_slice()), want.map(|w| w.as_bytes()));
+            }
+            Lifted::TooNew => assert!(rt; want.is_none()),
+        }
+    }
+    Ok(())
+}
+
+// A dashboard of 200 panels with 400 kB of text and forty references.
+fn large(alloc: Global) -> Result<String, AllocError> {
+    let mut text = String::from_str(
+        alloc,
+        r#"{"type":"dashboard","namespace":"a","references":["#,
+    )?;
+    for at in 0..40u32 {
+        let comma = if at == 0 { "" } else { "," };
+        let reference = format!(in alloc;
+            r#"{comma}{{"id":"{at}","name":"panel_{at}","type":"dashboard"}}"#
+        )?;
+        text.push_str(&reference)?;
+    }
+    text.push_str(r#"],"dashboard":{"panelsJSON":"["#)?;
+    for at in 0..200u32 {
+        let panel = format!(in alloc; "{at:2000}")?;
+        text.push_str(&panel)?;
+    }
+    text.push_str(r#"]"}}"#)?;
+    Ok(text)
+}
+
+#[test]
+fn migrates_a_large_document(rt: HostRuntime) -> Result<(), Fail> {
+    let reg = registry(rt.alloc(), REGISTRY)?;
+    let text = large(rt.alloc())?;
+    let doc = document(rt.alloc(), &text)?;
+    let migrated = migrate(rt.alloc(), &reg, "a:dashboard:d1", &doc)?;
+    let Migrated::Outputs(outputs) = &migrated else {
+        return Err(Fail::from("no outputs"));
+    };
+    assert_eq!(rt; outputs.len(), 2);
+    let first = outputs.get(0).ok_or("the document")?.doc.get();
+    let ids = first.references.as_slice();
+    assert!(rt; ids.len() == 40 && ids.iter().all(|r| r.id.len() == 36));
+    let js = to_js(rt.alloc(), first)?;
+    assert!(rt; print(rt.alloc(), &js)?.len() > 400_000);
+    Ok(())
+}
