@@ -15,8 +15,8 @@ use so_js::Js;
 use std::alloc::{AllocError, Global};
 use std::marker::Model;
 
-/// A filter: a text of at most 4,096 bytes in the subset of the Kibana query language that `specs/Grammar.antt` defines,
-/// and its tree. Contracts see the text, which has one tree.
+/// A filter: a text of at most 4,096 bytes in the subset of the Kibana query language that
+/// `specs/Grammar.antt` defines, and its tree. Contracts see the text, which has one tree.
 #[derive(Debug, Drop)]
 pub struct Filter {
     text: Text,
@@ -88,7 +88,8 @@ pub fn read(alloc: Global, text: &str) -> Result<Filter, FilterError>
     })
 }
 
-/// Whether the filter holds of an object of this type with these attributes, as `specs/Meaning.antt` says. Takes no memory.
+/// Whether the filter holds of an object of this type with these attributes, as
+/// `specs/Meaning.antt` says. Takes no memory.
 pub fn holds(filter: &Filter, type_name: &str, attributes: &Js) -> bool
     ensures value { result ≡ meaning_of filter.now type_name.now attributes.now }
     ensures meaning { (tree : Tree) → IsFilter filter.now tree → result ≡ meaning tree type_name.now attributes.now }
@@ -96,7 +97,8 @@ pub fn holds(filter: &Filter, type_name: &str, attributes: &Js) -> bool
     holding::holds_tree(&filter.tree, type_name, attributes)
 }
 
-/// A law: no text has two trees, and the function that reads a text gives its tree exactly where it has one.
+/// A law: no text has two trees, and the function that reads a text gives its tree exactly where it
+/// has one.
 pub fn one_tree()
     ensures one { (text : List ℕ) (x y : Tree) → IsFilter text x → IsFilter text y → x ≡ y }
     ensures read { (text : List ℕ) (x : Tree) → (tree_in text ≡ Some x) ↔ IsFilter text x }

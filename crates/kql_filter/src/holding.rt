@@ -83,7 +83,7 @@ fn value_at<'a>(path: &[u8], attributes: &'a Js) -> Option<&'a Js>
     named(js, &path[start..])
 }
 
-#[cycle(test)]
+#[cycle(passing)]
 fn test_passes(test: &Test, js: &Js) -> bool
     ensures { result ≡ passes test.now js.now }
 {
@@ -97,7 +97,7 @@ fn test_passes(test: &Test, js: &Js) -> bool
     }
 }
 
-#[cycle(test)]
+#[cycle(passing)]
 fn any_passes(test: &Test, items: &List<Js>) -> bool
     ensures { result ≡ list_any (passes test.now) items.now }
 {

@@ -16,8 +16,11 @@ use version_token::Ver;
 /// attributes are a sound object.
 #[derive(Debug, Drop)]
 pub struct Doc {
+    /// The name of its type.
     pub type_name: Text,
+    /// What the object says: an object, which is the member named as the type.
     pub attributes: Js,
+    /// The objects that it refers to, in their stored order.
     pub references: List<Ref>,
     /// The space of a single type's document; none in the default space.
     pub namespace: Option<SpaceId>,
@@ -27,6 +30,7 @@ pub struct Doc {
     pub stamp: Option<Ver>,
     /// The version of the product that wrote it.
     pub core: Option<Ver>,
+    /// When it was last written, as the text that stands there; any text will do.
     pub updated_at: Option<Text>,
     /// The id that it had before it became shareable, or was imported with.
     pub origin: Option<Text>,
@@ -127,7 +131,10 @@ fn copied_text(text: &Option<Text>) -> Result<Option<Text>, AllocError>
 /// A document under its raw id, with the number of the write that put it there.
 #[derive(Clone, Debug, Drop)]
 pub struct Row {
+    /// The raw id, which no other row of its table has.
     pub raw: Text,
+    /// The number of that write, counted from 0 in each index.
     pub seq: u64,
+    /// The document.
     pub doc: SharedDoc,
 }

@@ -16,6 +16,3 @@ pub use reading::{from_js, from_owned_js};
 pub use shared::SharedDoc;
 pub use visibility::visible;
 pub use writing::to_js;
-
-#[cfg(test)]
-mod tests;

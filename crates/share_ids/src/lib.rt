@@ -6,6 +6,3 @@ mod ids;
 
 pub use alias::{alias_doc, alias_raw};
 pub use ids::new_id;
-
-#[cfg(test)]
-mod tests;

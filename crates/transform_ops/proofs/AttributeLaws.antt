@@ -1,5 +1,5 @@
 -- Members by their keys: places, soundness and the order of keys.
-use Rattle.std.proofs.Common.{◌≡◌, ℕ, zero, suc, ◌<◌, ◌+◌, ◌∷◌, [], ◌++◌, List, length, find, take, drop, Option, Some, None, option_map, slice_get, Bool, true, false, not, cond, if◌then◌else◌, Ordering, Less, Equal, Greater, refl, sym, ap, ◌∙◌, true≢false, inl, inr, arith}
+use Rattle.std.proofs.Common.{◌≡◌, ℕ, zero, suc, ◌∷◌, [], List, Option, Some, None, option_map, slice_get, Bool, true, false, not, Ordering, Less, Equal, Greater, refl, sym, ap, ◌∙◌, true≢false, inl, inr}
 use Rattle.std.specs.Option.{unwrap_or}
 use Rattle.std.specs.List.{list_all, remove}
 use Rattle.std.specs.Str.{bytes_eq}
@@ -14,7 +14,7 @@ use Rattle.so_js.specs.Printing.{members_are_sound}
 use Rattle.so_js.specs.declared.js.Js.{Js}
 use Rattle.so_js.specs.declared.js.Member.{Member}
 use Rattle.so_js.proofs.TreeLaws.{IsBelowAll, IsBelowAll-lower, is_Less, are_rising_parts}
-use Rattle.transform_ops.specs.Attributes.{named, value_at, without, place_at, place_among, placed, with_value}
+use Rattle.transform_ops.specs.Attributes.{named, value_at, without, place_at, placed, with_value}
 
 -- ---- places
 

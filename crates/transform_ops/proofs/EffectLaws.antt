@@ -1,5 +1,5 @@
 -- What operations make of sound attributes is sound.
-use Rattle.std.proofs.Common.{◌≡◌, ℕ, ℤ, ◌∷◌, [], List, Option, Some, None, option_map, Bool, true, false, refl, sym, ap, ◌∙◌, inl, inr, rules, is_some}
+use Rattle.std.proofs.Common.{◌≡◌, ℕ, ℤ, ◌∷◌, [], List, Option, Some, None, Bool, true, false, refl, sym, ap, ◌∙◌, inl, inr, rules, is_some}
 use Rattle.std.specs.Option.{unwrap_or}
 use Rattle.std.specs.List.{list_all}
 use Rattle.std.specs.Str.{bytes_eq}
@@ -14,11 +14,11 @@ use Rattle.so_js.specs.declared.js.Js.TheOpen.{Js-F}
 use Rattle.so_js.specs.declared.js.Js.TheVariants.{Null, Bool as Boolean, Whole, Str, Items, Object, rolls-Null, rolls-Bool, rolls-Whole, rolls-Str, rolls-Items, rolls-Object}
 use Rattle.so_js.specs.declared.js.Member.{Member}
 use Rattle.so_js.proofs.TreeLaws.{is_sound-Object, is_sound-Str, is_sound-Items}
-use Rattle.transform_ops.specs.Attributes.{named, value_at, without, placed, with_value}
-use Rattle.transform_ops.specs.Effects.{op_is_sound, renamed_over, renamed, defaulted_over, room_in, moved_over, mapped_over, mapped_value, wrapped_in, wrapped_over, changed}
+use Rattle.transform_ops.specs.Attributes.{named, value_at, without, with_value}
+use Rattle.transform_ops.specs.Effects.{op_is_sound, renamed_over, defaulted_over, room_in, moved_over, mapped_over, mapped_value, wrapped_in, wrapped_over, changed}
 use Rattle.transform_ops.specs.declared.op.Op.{Op}
 use Rattle.transform_ops.specs.declared.op.Op.TheVariants.{Rename, SetDefault, Remove, MoveInto, MapText, WrapList}
-use Rattle.transform_ops.proofs.AttributeLaws.{values-without, lacks-without, lacks-None, lacks-values-without, sound-without, sound-placed, sound-with_value}
+use Rattle.transform_ops.proofs.AttributeLaws.{lacks-None, lacks-values-without, sound-without, sound-placed, sound-with_value}
 
 -- ---- objects
 

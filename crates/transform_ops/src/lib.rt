@@ -1,4 +1,5 @@
-//! The operations of a migration: their JSON form, and what each does with the attributes of a document.
+//! The operations of a migration: their JSON form, and what each does with the attributes of a
+//! document.
 #![tactic(auto)]
 
 mod attributes;
@@ -11,6 +12,3 @@ pub use effects::apply;
 pub use error::OpError;
 pub use op::{Op, Replacement};
 pub use reading::read_op;
-
-#[cfg(test)]
-mod tests;

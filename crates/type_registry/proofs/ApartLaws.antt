@@ -1,5 +1,5 @@
 -- The names of types that were read differ.
-use Rattle.std.proofs.Common.{◌≡◌, List, [], ◌∷◌, ◌++◌, Option, Some, None, Ok, Err, Bool, true, false, not, ◌&&◌, refl, sym, ap, ◌∙◌, inl, inr, append_assoc, if◌then◌else◌}
+use Rattle.std.proofs.Common.{◌≡◌, List, [], ◌∷◌, ◌++◌, Option, Some, None, Ok, Err, Bool, true, false, not, ◌&&◌, refl, sym, ap, ◌∙◌, inl, inr, append_assoc}
 use Rattle.std.specs.Prelude.{codes}
 use Rattle.std.specs.List.{list_all}
 use Rattle.std.specs.Result.{result_unwrap_or}

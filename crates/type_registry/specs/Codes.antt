@@ -1,5 +1,5 @@
 -- How the logic stores registries and their parts.
-use Rattle.std.specs.Prelude.{ℕ, List, Option, refl}
+use Rattle.std.specs.Prelude.{List, Option, refl}
 use Rattle.std.specs.Coded.{Coded, code_by, coded×, coded_ℕ, coded_list, coded_option}
 use Rattle.base_model.specs.Keyed.{Text}
 use Rattle.document_model.specs.Registries.{Known, Registry}

@@ -11,6 +11,3 @@ mod types;
 
 pub use error::RegError;
 pub use registry::Registry;
-
-#[cfg(test)]
-mod tests;

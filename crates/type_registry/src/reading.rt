@@ -1,4 +1,5 @@
 ghost use Rattle.std.specs.Prelude.{◌≡◌, IfOk, IfErr, true, [], Ok, codes};
+ghost use Rattle.document_model.specs.Names.{is_type_name};
 ghost use Rattle.document_model.specs.Registries.{type_names, names_apart};
 ghost use Rattle.so_js.specs.Tree.{is_sound, member_of};
 ghost use Rattle.so_js.specs.Printing.{are_sound};
@@ -103,7 +104,8 @@ fn read_type(alloc: Global, top: Ver, taken: &List<Text>, js: &Js) -> Result<Lis
 }
 
 fn name_of(alloc: Global, taken: &List<Text>, js: &Js) -> Result<Text, RegError>
-    ensures { Gives result (required (name_in taken.now []) (member_of (codes "name") js.now)) }
+    ensures exact { Gives result (required (name_in taken.now []) (member_of (codes "name") js.now)) }
+    ensures named { IfOk result (λ name. is_type_name name ≡ true) }
 {
     let none = List::new(alloc);
     match member(js, "name") {

@@ -1,9 +1,10 @@
-ghost use Rattle.std.specs.Prelude.{◌≡◌, ◌++◌, IfOk, true, Some, option_map, option_and_then};
+ghost use Rattle.std.specs.Prelude.{◌≡◌, ◌++◌, IfOk, IfSome, true, Some, option_map, option_and_then};
 ghost use Rattle.std.specs.List.{list_all};
 ghost use Rattle.std.specs.Option.{option_copied};
 ghost use Rattle.base_model.specs.Keyed.{at};
 ghost use Rattle.document_model.specs.Documents.{lists as is_listed};
 ghost use Rattle.document_model.specs.Migrations.{ops_above as all_ops_above};
+ghost use Rattle.document_model.specs.Names.{is_type_name};
 ghost use Rattle.document_model.specs.Registries.{known, latest, greatest, greater, type_names, names_apart};
 ghost use Rattle.so_js.specs.Tree.{is_sound};
 ghost use Rattle.transform_ops.specs.Effects.{op_is_sound};
@@ -115,10 +116,11 @@ impl Registry {
     }
 
     /// The kind of a type, and `None` where it isn't known. The type of alias documents is known,
-    /// and agnostic. Takes no memory.
+    /// and agnostic. What is known has a type name. Takes no memory.
     #[tactic(auto, unfolding(document_model::specs::Registries::known, base_model::specs::Keyed::same))]
     pub fn kind_of(&self, name: &str) -> Option<Kind>
-        ensures { result ≡ option_map (λ t. t.kind) (known self.now name.now) }
+        ensures value { result ≡ option_map (λ t. t.kind) (known self.now name.now) }
+        ensures named { IfSome result (λ _. is_type_name name.now ≡ true) }
     {
         if name == "legacy-url-alias" {
             return Some(Kind::Agnostic);
@@ -177,7 +179,8 @@ impl Registry {
 
 #[tactic(auto, unfolding(base_model::specs::Keyed::at, base_model::specs::Keyed::same))]
 fn listed<'a>(types: &'a List<Listed>, name: &str) -> Option<&'a Listed>
-    ensures { option_map (λ t. t.1) (option_copied result) ≡ at name.now types.now }
+    ensures value { option_map (λ t. t.1) (option_copied result) ≡ at name.now types.now }
+    ensures named { IfSome result (λ _. is_type_name name.now ≡ true) }
 {
     for listed in types.as_slice() {
         if name == listed.name.as_str() {

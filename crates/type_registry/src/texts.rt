@@ -58,7 +58,8 @@ pub fn read_name(
     more: &List<Text>,
     js: &Js,
 ) -> Result<Text, RegError>
-    ensures { Gives result (name_in taken.now more.now js.now) }
+    ensures exact { Gives result (name_in taken.now more.now js.now) }
+    ensures named { IfOk result (λ name. is_name_of_type name ≡ true) }
 {
     let Some(text) = js.as_text() else {
         return Err(RegError::WrongKind);

@@ -29,7 +29,7 @@ impl Model for Migration {
     ghost invariant = { λ m. list_all op_is_sound m.ops ≡ true };
 }
 
-/// A type that a registry lists. Contracts see its name, and what is known of it.
+/// A type that a registry lists. Contracts see its name, a type name, and what is known of it.
 #[derive(Debug, Drop)]
 pub(crate) struct Listed {
     pub name: Text,
@@ -41,7 +41,9 @@ pub(crate) struct Listed {
 }
 
 impl Model for Listed {
+    ghost use Rattle.std.specs.Prelude.{◌≡◌, true};
     ghost use Rattle.base_model.specs.Keyed.{Text as Bytes};
+    ghost use Rattle.document_model.specs.Names.{is_type_name};
     ghost use Rattle.document_model.specs.Registries.{Known};
     ghost use Rattle.transform_ops.specs.declared.op.Op.{Op as Operation};
     ghost use Rattle.type_registry.specs.Codes.{listed_code};
@@ -51,4 +53,6 @@ impl Model for Listed {
     ghost coded = { listed_code };
 
     ghost view = { λ t. (t.name, record { kind = t.kind; shareable_at = t.shareable_at; steps = t.migrations }) };
+
+    ghost invariant = { λ t. is_type_name t.name ≡ true };
 }

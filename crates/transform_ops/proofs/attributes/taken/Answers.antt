@@ -1,4 +1,4 @@
-use Rattle.std.proofs.Common.{◌≡◌, Some, sym, ap, ◌∙◌}
+use Rattle.std.proofs.Common.{sym, ◌∙◌}
 use Rattle.transform_ops.proofs.AttributeLaws.{taken_at, none_at}
 use Rattle.transform_ops.proofs.attributes.taken.Goals as goal
 

@@ -1,4 +1,4 @@
-use Rattle.std.proofs.Common.{◌≡◌, ◌+◌, ◌∷◌, [], ◌++◌, List, drop, get_or, Ok, true, sym, ap, ◌∙◌, rules, arith, drop-cons, add-one}
+use Rattle.std.proofs.Common.{◌≡◌, ◌+◌, ◌∷◌, [], ◌++◌, List, drop, true, sym, ap, ◌∙◌, rules, arith}
 use Rattle.std.proofs.lemmas.Grind.{common_steps}
 use Rattle.std.proofs.lemmas.Bool.{and_parts}
 use Rattle.base_model.specs.Keyed.{Text, Keyed}
@@ -6,7 +6,7 @@ use Rattle.document_model.specs.Registries.{Known, type_names}
 use Rattle.so_js.specs.Printing.{are_sound}
 use Rattle.so_js.specs.declared.js.Js.{Js}
 use Rattle.transform_ops.specs.declared.op.Op.{Op}
-use Rattle.type_registry.specs.Reading.{type_in, types_after}
+use Rattle.type_registry.specs.Reading.{types_after}
 use Rattle.type_registry.proofs.ReadingLemmas.{onto}
 use Rattle.type_registry.proofs.ApartLaws.{one_type, names-push, names-apart}
 use Rattle.type_registry.proofs.reading.read_each.Goals as goal

@@ -1,4 +1,4 @@
-use Rattle.std.proofs.Common.{◌≡◌, ◌++◌, drop, take}
+use Rattle.std.proofs.Common.{◌≡◌, ◌++◌, take}
 use Rattle.type_registry.proofs.registry.with_copies.Given as goal
 
 abbrev pub invariant-loop-op : goal.invariant-loop-op
