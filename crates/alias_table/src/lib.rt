@@ -6,8 +6,6 @@ mod error;
 mod lists;
 mod pair;
 mod planning;
-#[cfg(test)]
-mod tests;
 
 pub use action::Action;
 pub use error::PlanError;

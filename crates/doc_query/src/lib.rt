@@ -6,8 +6,6 @@ mod ids;
 mod query;
 mod selecting;
 mod sorting;
-#[cfg(test)]
-mod tests;
 
 pub use fitting::fits;
 pub use ids::id_of;

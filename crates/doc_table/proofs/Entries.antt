@@ -139,6 +139,9 @@ after_above (Some r) x = above_by_order r x.raw
 pub entries_after : (n : ℕ) (a : Option (List ℕ)) (rows : List Row) → entries (take n (rows_after a rows)) ≡ take n (rows_above a (entries rows))
 entries_after n a rows = sym (take-map entry_of n (rows_after a rows)) ∙ ap (take n) (entries_filter (is_after a) (is_above a) (after_above a) rows)
 
+pub count_entries : (a : Option (List ℕ)) (rows : List Row) → length (rows_after a rows) ≡ length (rows_above a (entries rows))
+count_entries a rows = sym (length-map (rows_after a rows) entry_of) ∙ ap length (entries_filter (is_after a) (is_above a) (after_above a) rows)
+
 pub entries_counted : (n : ℕ) (rows : List Row) → entries (counted_from n rows) ≡ numbered n (entries rows)
 unfolding numbered
 entries_counted n [] = refl

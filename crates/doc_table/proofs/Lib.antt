@@ -8,6 +8,7 @@ pub mod Flank
 pub mod PageLists
 pub mod PageChanges
 pub mod Readers
+pub mod Counts
 pub mod Cursor
 pub mod Entries
 pub mod Cases

@@ -11,7 +11,7 @@ use saved_doc::Row;
 use std::alloc::{AllocError, Global};
 
 /// Whether a row is live and above a raw id, if one is given.
-fn keeps(live: u64, at: usize, row: &Row, after: Option<&str>) -> bool
+pub fn keeps(live: u64, at: usize, row: &Row, after: Option<&str>) -> bool
     requires { at < 64 }
     ensures { result ≡ ((bit_at live at == 1) && is_after (option_copied after.entry) row.now) }
 {
@@ -38,7 +38,7 @@ fn push_page(
 }
 
 /// The first page that can have rows above a raw id.
-fn start_of(pages: &[SharedPage], after: Option<&str>) -> usize
+pub fn start_of(pages: &[SharedPage], after: Option<&str>) -> usize
     requires { IsPages pages.now }
     ensures within { result ≤ length pages.now }
     ensures rest { rows_after (option_copied after.entry) (rows_of (drop result pages.now)) ≡ rows_after (option_copied after.entry) (rows_of pages.now) }

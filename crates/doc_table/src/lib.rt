@@ -2,6 +2,7 @@
 #![tactic(auto)]
 
 mod copies;
+mod counting;
 mod list_table;
 mod page;
 mod pages;
@@ -15,6 +16,3 @@ pub use reader::Rows;
 pub use saved_doc::Row;
 pub use table::DocTable;
 pub use writes::{Item, Write};
-
-#[cfg(test)]
-mod tests;

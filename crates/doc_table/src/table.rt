@@ -1,4 +1,4 @@
-ghost use Rattle.std.specs.Prelude.{◌≡◌, ◌<◌, ◌^◌, IfOk, OnErr, take};
+ghost use Rattle.std.specs.Prelude.{◌≡◌, ◌<◌, ◌^◌, IfOk, OnErr, take, length};
 ghost use Rattle.std.specs.Option.{option_copied, option_map};
 ghost use Rattle.base_model.specs.Keyed.{at};
 ghost use Rattle.race_model.specs.Stores.{empty_table, found_one, write, write as done, written, dropped, renumbered};
@@ -6,6 +6,7 @@ ghost use Rattle.race_model.specs.Stores.Write.{Create, Put, Delete};
 ghost use Rattle.doc_table.specs.Tables.{IsTable, entry_of, entries, item_of, write_of, number, rows_above};
 
 use crate::copies::{count_pages, share, take_rows};
+use crate::counting::count_above;
 use crate::page::SharedPage;
 use crate::pages::{clear_anywhere, look_in, put_anywhere};
 use crate::place::meets;
@@ -185,6 +186,14 @@ impl DocTable {
     {
         let rows = take_rows(*self.pages.allocator(), self.pages.as_slice(), after, n)?;
         Ok(List::from_vec(rows))
+    }
+
+    /// How many rows have a raw id above `after`, or how many rows there are. Takes no memory.
+    pub fn count_after(&self, after: Option<&str>) -> u64
+        ensures { result ≡ length (rows_above (option_copied after.entry) self.now.rows) }
+    {
+        let _next = self.next;
+        count_above(self.pages.as_slice(), after)
     }
 
     /// An equal table, which shares the pages; or want of memory.

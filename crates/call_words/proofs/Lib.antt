@@ -1,0 +1,2 @@
+mod Filters
+mod Lists

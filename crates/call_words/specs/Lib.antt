@@ -1,0 +1,4 @@
+pub mod Mapped
+pub mod Told
+pub mod Product
+pub mod Asking

@@ -1,0 +1,83 @@
+-- How many rows are above a raw id.
+use Rattle.std.proofs.Common.{◌≡◌, ℕ, ◌+◌, ◌-◌, ◌^◌, ◌<◌, ◌≤◌, suc, Bool, true, false, cond, ◌&&◌, List, [], ◌∷◌, ◌++◌, length, take, drop, get_or, Option, Some, None, refl, sym, ◌∙◌, ap, arith, length-append}
+use Rattle.std.specs.Prelude.{◌==◌}
+use Rattle.std.specs.Int.{bit_at}
+use Rattle.std.specs.List.{filter}
+use Rattle.std.specs.Ordering.{is_gt}
+use Rattle.std.proofs.lemmas.List.Elements.{filter-append}
+use Rattle.std.specs.declared.cmp.Ordering.{Ordering}
+use Rattle.std.specs.declared.cmp.Ordering.TheVariants.{Less, Equal, Greater}
+use Rattle.saved_doc.specs.declared.doc.Row.{Row}
+use Rattle.doc_table.specs.RowLists.{Each, IsRising, order, rows_after, is_after}
+use Rattle.doc_table.specs.declared.page.SharedPage.{SharedPage}
+use Rattle.doc_table.specs.Pages.{live_from, live_rows, rows_of}
+use Rattle.doc_table.proofs.Order.{filter_all, each_weaker}
+use Rattle.doc_table.proofs.Live.{live_more, live_full, length-live}
+use Rattle.doc_table.proofs.Places.{later_than_above}
+use Rattle.doc_table.proofs.Readers.{rows_more, rows_rest, page_fits, length-take-bound}
+
+filter_one : (p : Row → Bool) (t : Bool) (x : Row) → filter p (cond t (x ∷ []) []) ≡ cond (t && p x) (x ∷ []) []
+filter_one p true x = refl
+filter_one p false x = refl
+
+-- one row more
+pub one_more : (a : Option (List ℕ)) (b i : ℕ) (rows : List Row) (x : Row) (keep : Bool) → i < length rows → x ≡ get_or rows i x → keep ≡ ((bit_at b i == 1) && is_after a x)
+    → length (rows_after a (live_from b 0 (take (i + 1) rows))) ≡ length (rows_after a (live_from b 0 (take i rows))) + length (cond keep (x ∷ []) [])
+one_more a b i rows x keep h e k =
+    let f = rows_after a (live_from b 0 (take i rows)) in
+    let c = cond ((bit_at b i == 1) && is_after a x) (x ∷ []) [] in
+    ap (λ (t : List Row). length (rows_after a t)) (live_more b i rows x h e)
+    ∙ ap length (filter-append (is_after a) (live_from b 0 (take i rows)) (cond (bit_at b i == 1) (x ∷ []) []) ∙ ap (λ (t : List Row). f ++ t) (filter_one (is_after a) (bit_at b i == 1) x))
+    ∙ length-append f c ∙ ap (λ (t : Bool). length f + length (cond t (x ∷ []) [])) (sym k)
+
+is_greater : (o : Ordering) → is_gt o ≡ true → o ≡ Greater
+is_greater Less e = absurd (cc)
+is_greater Equal e = absurd (cc)
+is_greater Greater e = refl
+
+after_rest : (a : Option (List ℕ)) (x : Row) (xs : List Row) → Each (λ y. order x.raw y.raw ≡ Less) xs → is_after a x ≡ true → Each (λ y. is_after a y ≡ true) xs
+after_rest None x xs s e = each_weaker (λ y. order x.raw y.raw ≡ Less) (λ y. is_after None y ≡ true) (λ y l. refl) xs s
+after_rest (Some r) x xs s e = each_weaker (λ y. order x.raw y.raw ≡ Less) (λ y. is_after (Some r) y ≡ true) (λ y l. ap is_gt (later_than_above x.raw r y.raw (is_greater (order x.raw r) e) l)) xs s
+
+after_all : (a : Option (List ℕ)) (rows : List Row) (x : Row) → IsRising rows → 0 < length rows → x ≡ get_or rows 0 x → is_after a x ≡ true → Each (λ y. is_after a y ≡ true) rows
+after_all a [] x s h e q = tt
+after_all a (y ∷ rows) x s h e q = let p : is_after a y ≡ true = ap (is_after a) (sym e) ∙ q in (p, after_rest a y rows s.0 p)
+
+-- a page of which no row was taken out, and whose first row is above
+pub whole_page : (a : Option (List ℕ)) (rows : List Row) (x : Row) → IsRising rows → 0 < length rows → length rows ≤ 64 → x ≡ get_or rows 0 x → is_after a x ≡ true → length rows ≡ length (rows_after a (live_from (2 ^ 64 - 1) 0 rows))
+whole_page a rows x s h k e q = sym (ap (λ (t : List Row). length (rows_after a t)) (live_full 0 rows (omega arith)) ∙ ap length (filter_all (is_after a) rows (after_all a rows x s h e q)))
+
+-- no row before the page at which rows above begin
+pub none_before : (a : Option (List ℕ)) (ps : List SharedPage) (p : ℕ) → rows_after a (rows_of (drop p ps)) ≡ rows_after a (rows_of ps) → 0 ≡ length (rows_after a (rows_of (take p ps)))
+none_before a ps p e =
+    let l = ap length (e ∙ rows_rest a ps p) in
+    let m = length-append (rows_after a (rows_of (take p ps))) (rows_after a (rows_of (drop p ps))) in
+    omega arith
+
+-- one page more
+pub page_more : (a : Option (List ℕ)) (ps : List SharedPage) (i : ℕ) (h : SharedPage) → i < length ps → h ≡ get_or ps i h
+    → length (rows_after a (rows_of (take (i + 1) ps))) ≡ length (rows_after a (rows_of (take i ps))) + length (rows_after a (live_rows h))
+page_more a ps i h l e =
+    ap (λ (t : List Row). length (rows_after a t)) (rows_more ps i h l e) ∙ ap length (filter-append (is_after a) (rows_of (take i ps)) (live_rows h))
+    ∙ length-append (rows_after a (rows_of (take i ps))) (rows_after a (live_rows h))
+
+shorter_after : (a : Option (List ℕ)) (rows : List Row) → length (rows_after a rows) ≤ length rows
+shorter_after a [] = omega arith
+shorter_after a (x ∷ rows) = let h = shorter_after a rows in elim (is_after a x) as (λ t. length (cond t (x ∷ rows_after a rows) (rows_after a rows)) ≤ suc (length rows)) [ true ↦ omega arith | false ↦ omega arith ]
+
+-- not more than all rows
+pub within_all : (a : Option (List ℕ)) (ps : List SharedPage) (i : ℕ) (h : SharedPage) → i < length ps → h ≡ get_or ps i h
+    → length (rows_after a (rows_of (take i ps))) + length (rows_after a (live_rows h)) ≤ length (rows_of ps)
+within_all a ps i h l e =
+    let f = page_fits ps i h l e in
+    let m = shorter_after a (rows_of (take i ps)) in
+    let n = shorter_after a (live_rows h) in
+    omega arith
+
+-- not more than the rows that were looked at
+pub count_bound : (a : Option (List ℕ)) (b i : ℕ) (rows : List Row) → length (rows_after a (live_from b 0 (take i rows))) ≤ i
+count_bound a b i rows =
+    let m = shorter_after a (live_from b 0 (take i rows)) in
+    let n = length-live b 0 (take i rows) in
+    let t = length-take-bound i rows in
+    omega arith

@@ -1,0 +1,4 @@
+pub mod Known
+mod Lifts
+mod Members
+mod OwnWords

@@ -1,0 +1,10 @@
+pub mod Names
+pub mod Numbers
+pub mod Orders
+pub mod Forgetting
+pub mod Beside
+pub mod Replies
+pub mod Journals
+pub mod Waiting
+pub mod Beginning
+pub mod Taking

@@ -1,0 +1,4 @@
+pub mod Standing
+pub mod Engines
+pub mod Copies
+pub mod Journals

@@ -1,0 +1,4 @@
+pub mod Words
+pub mod Serving
+pub mod Names
+pub mod Links
