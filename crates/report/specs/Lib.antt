@@ -1,0 +1,4 @@
+pub mod Members
+pub mod Answers
+pub mod Faults
+pub mod Lines
