@@ -1,5 +1,5 @@
 -- A create that its own words don't refuse.
-use Rattle.std.proofs.Common.{◌≡◌, ◌∷◌, [], Option, Some, None, Bool, true, false, refl}
+use Rattle.std.proofs.Common.{◌≡◌, ◌∷◌, [], Option, None, Bool, true, false, refl}
 use Rattle.base_model.specs.Keyed.{Text}
 use Rattle.document_model.specs.Registries.{Registry, known}
 use Rattle.call_model.specs.Words.{Words}

@@ -8,10 +8,10 @@ ghost use Rattle.call_model.specs.Acts.Deed.{Deny, Remake, Drop as Take};
 ghost use Rattle.call_model.specs.declared.refuse.Refuse.TheVariants.{Conflict, NeedsForce};
 ghost use Rattle.call_words.specs.Mapped.{given_of, new_object_of, change_of};
 ghost use Rattle.call_words.specs.Product.{product_words};
-ghost use Rattle.object_acts.specs.Mapped.{act_of, deed_of};
+ghost use Rattle.object_acts.specs.Mapped.{act_of, judged_of};
 
 use crate::acts::Act;
-use crate::deeds::Deed;
+use crate::deeds::{Deed, Judged};
 use crate::documents::{created, overwritten, respaced, updated};
 use crate::sharing::{is_wide, shared};
 use call_words::{Change, NewObject, Refuse, is_seen};
@@ -37,9 +37,9 @@ pub fn judge(
     space: &Space,
     act: &Act,
     row: Option<&Row>,
-) -> Result<Deed, AllocError>
+) -> Result<Judged, AllocError>
     requires { own_words product_words reg.now (act_of act.now) ≡ None }
-    ensures { IfOk result (λ deed. deed_of deed ≡ judge_by product_words reg.now (space_text space.now) (act_of act.now) (option_map cell_of (option_copied row.entry))) }
+    ensures { IfOk result (λ judged. judged_of judged ≡ judge_by product_words reg.now (space_text space.now) (act_of act.now) (option_map cell_of (option_copied row.entry))) }
 {
     match act {
         Act::Create {
@@ -60,23 +60,23 @@ fn overwrite(
     object: &NewObject,
     at: &Option<Text>,
     row: Option<&Row>,
-) -> Result<Deed, AllocError>
+) -> Result<Judged, AllocError>
     requires known { is_unknown reg.now object.now.type_name ≡ false }
     requires stamp { stamp_too_new (known reg.now object.now.type_name) (given_of object.now.given) ≡ false }
-    ensures { IfOk result (λ deed. deed_of deed ≡ overwriting reg.now (space_text space.now) true (option_map cell_of (option_copied row.entry)) (created_by product_words reg.now (space_text space.now) (new_object_of object.now) at.now)) }
+    ensures { IfOk result (λ judged. judged_of judged ≡ overwriting reg.now (space_text space.now) true (option_map cell_of (option_copied row.entry)) (created_by product_words reg.now (space_text space.now) (new_object_of object.now) at.now)) }
 {
     let Some(row) = row else {
         return make(alloc, reg, space, object, at);
     };
     if !is_seen(reg, space, object.type_name.as_str(), row.doc.get()) {
-        return Ok(Deed::Deny(Refuse::Conflict));
+        return Ok(Judged::Denied(Refuse::Conflict));
     }
     let new = created(alloc, reg, space, object, at)?;
     let doc = overwritten(new, row.doc.get())?;
-    Ok(Deed::Remake {
+    Ok(Judged::Does(Deed::Remake {
         seen: row.seq,
         doc: SharedDoc::new(alloc, doc)?,
-    })
+    }))
 }
 
 /// A create where no row counts.
@@ -86,13 +86,13 @@ fn make(
     space: &Space,
     object: &NewObject,
     at: &Option<Text>,
-) -> Result<Deed, AllocError>
+) -> Result<Judged, AllocError>
     requires known { is_unknown reg.now object.now.type_name ≡ false }
     requires stamp { stamp_too_new (known reg.now object.now.type_name) (given_of object.now.given) ≡ false }
-    ensures { IfOk result (λ deed. deed_of deed ≡ overwriting reg.now (space_text space.now) true None (created_by product_words reg.now (space_text space.now) (new_object_of object.now) at.now)) }
+    ensures { IfOk result (λ judged. judged_of judged ≡ overwriting reg.now (space_text space.now) true None (created_by product_words reg.now (space_text space.now) (new_object_of object.now) at.now)) }
 {
     let doc = created(alloc, reg, space, object, at)?;
-    Ok(Deed::Make(SharedDoc::new(alloc, doc)?))
+    Ok(Judged::Does(Deed::Make(SharedDoc::new(alloc, doc)?)))
 }
 
 /// A change of an object, which needs a row of its type that is visible in the space.
@@ -102,24 +102,24 @@ fn change_row(
     space: &Space,
     act: &Act,
     row: Option<&Row>,
-) -> Result<Deed, AllocError>
-    ensures { IfOk result (λ deed. deed_of deed ≡ on_row product_words reg.now (space_text space.now) (act_of act.now) (option_map cell_of (option_copied row.entry))) }
+) -> Result<Judged, AllocError>
+    ensures { IfOk result (λ judged. judged_of judged ≡ on_row product_words reg.now (space_text space.now) (act_of act.now) (option_map cell_of (option_copied row.entry))) }
 {
     let Some(row) = row else {
-        return Ok(Deed::Deny(Refuse::NotFound));
+        return Ok(Judged::Denied(Refuse::NotFound));
     };
     if !is_seen(reg, space, act.type_name(), row.doc.get()) {
-        return Ok(Deed::Deny(Refuse::NotFound));
+        return Ok(Judged::Denied(Refuse::NotFound));
     }
     change_seen(alloc, act, row)
 }
 
 /// A change of an object that is there.
-fn change_seen(alloc: Global, act: &Act, row: &Row) -> Result<Deed, AllocError>
-    ensures { IfOk result (λ deed. deed_of deed ≡ act_on product_words (act_of act.now) row.now.seq row.now.doc) }
+fn change_seen(alloc: Global, act: &Act, row: &Row) -> Result<Judged, AllocError>
+    ensures { IfOk result (λ judged. judged_of judged ≡ act_on product_words (act_of act.now) row.now.seq row.now.doc) }
 {
     match act {
-        Act::Create { .. } => Ok(Deed::Deny(Refuse::Conflict)),
+        Act::Create { .. } => Ok(Judged::Denied(Refuse::Conflict)),
         Act::Update { change, at } => update(alloc, change, at, row),
         Act::Delete { force, .. } => Ok(delete(*force, row)),
         Act::Share {
@@ -131,27 +131,32 @@ fn change_seen(alloc: Global, act: &Act, row: &Row) -> Result<Deed, AllocError>
     }
 }
 
-fn update(alloc: Global, change: &Change, at: &Option<Text>, row: &Row) -> Result<Deed, AllocError>
-    ensures { IfOk result (λ deed. deed_of deed ≡ (if token_is product_words change.now.version row.now.seq then Remake row.now.seq (updated_by product_words (change_of change.now) at.now row.now.doc) else Deny Conflict)) }
+fn update(
+    alloc: Global,
+    change: &Change,
+    at: &Option<Text>,
+    row: &Row,
+) -> Result<Judged, AllocError>
+    ensures { IfOk result (λ judged. judged_of judged ≡ (if token_is product_words change.now.version row.now.seq then Remake row.now.seq (updated_by product_words (change_of change.now) at.now row.now.doc) else Deny Conflict)) }
 {
     if !stands_for(alloc, &change.version, row.seq)? {
-        return Ok(Deed::Deny(Refuse::Conflict));
+        return Ok(Judged::Denied(Refuse::Conflict));
     }
     let doc = updated(alloc, change, at, row.doc.get())?;
-    Ok(Deed::Remake {
+    Ok(Judged::Does(Deed::Remake {
         seen: row.seq,
         doc: SharedDoc::new(alloc, doc)?,
-    })
+    }))
 }
 
-fn delete(force: bool, row: &Row) -> Deed
-    ensures { deed_of result ≡ (if lies_wide row.now.doc.namespaces && not force then Deny NeedsForce else Take row.now.seq) }
+fn delete(force: bool, row: &Row) -> Judged
+    ensures { judged_of result ≡ (if lies_wide row.now.doc.namespaces && not force then Deny NeedsForce else Take row.now.seq) }
 {
     let doc = row.doc.get();
     if is_wide(&doc.namespaces) && !force {
-        return Deed::Deny(Refuse::NeedsForce);
+        return Judged::Denied(Refuse::NeedsForce);
     }
-    Deed::Drop { seen: row.seq }
+    Judged::Does(Deed::Drop { seen: row.seq })
 }
 
 fn share(
@@ -160,19 +165,19 @@ fn share(
     remove: &List<Text>,
     at: &Option<Text>,
     row: &Row,
-) -> Result<Deed, AllocError>
-    ensures { IfOk result (λ deed. deed_of deed ≡ spaces_left row.now.seq row.now.doc at.now (taken_away remove.now (added add.now (or_no_space row.now.doc.namespaces)))) }
+) -> Result<Judged, AllocError>
+    ensures { IfOk result (λ judged. judged_of judged ≡ spaces_left row.now.seq row.now.doc at.now (taken_away remove.now (added add.now (or_no_space row.now.doc.namespaces)))) }
 {
     let doc = row.doc.get();
     let left = shared(alloc, add, remove, &doc.namespaces)?;
     if left.is_empty() {
-        return Ok(Deed::Drop { seen: row.seq });
+        return Ok(Judged::Does(Deed::Drop { seen: row.seq }));
     }
     let doc = respaced(left, at, doc)?;
-    Ok(Deed::Remake {
+    Ok(Judged::Does(Deed::Remake {
         seen: row.seq,
         doc: SharedDoc::new(alloc, doc)?,
-    })
+    }))
 }
 
 /// Whether the token, where there is one, is that of this number.

@@ -12,7 +12,7 @@ mod sharing;
 mod telling;
 
 pub use acts::Act;
-pub use deeds::Deed;
+pub use deeds::{Deed, Judged};
 pub use judging::judge;
 pub use merging::merged;
 pub use telling::{told, write_of};

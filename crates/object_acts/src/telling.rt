@@ -1,14 +1,14 @@
-ghost use Rattle.std.specs.Prelude.{◌≡◌, IfOk, option_map};
+ghost use Rattle.std.specs.Prelude.{◌≡◌, IfOk};
 ghost use Rattle.doc_table.specs.Tables.{item_of, write_of as model_write};
 ghost use Rattle.base_model.specs.Keyed.{Text as Bytes};
 ghost use Rattle.document_model.specs.Registries.{Registry as ModelRegistry};
 ghost use Rattle.transform_ops.specs.declared.op.Op.{Op as ModelOp};
 ghost use Rattle.call_model.specs.Acts.{success as success_of, dropped_one as dropped_answer};
 ghost use Rattle.call_model.specs.Acts.Deed.{Make as Makes, Remake as Remakes, Drop as Takes};
-ghost use Rattle.call_model.specs.Plans.{told as told_by, there as refusal_there};
+ghost use Rattle.call_model.specs.Plans.{told as told_by, there as refusal_there, write_of as sent_by};
 ghost use Rattle.call_model.specs.Steps.{gone as refusal_gone};
 ghost use Rattle.call_words.specs.Told.{answer_with_token};
-ghost use Rattle.object_acts.specs.Mapped.{act_of, deed_of, sent_by};
+ghost use Rattle.object_acts.specs.Mapped.{act_of, deed_of};
 
 use crate::acts::Act;
 use crate::deeds::Deed;
@@ -20,26 +20,24 @@ use saved_doc::{Row, SharedDoc};
 use std::alloc::{AllocError, Global};
 use type_registry::Registry;
 
-/// The write that a deed on this raw id sends, with the number that was seen. `None` exactly where
-/// it is refused.
-pub fn write_of(raw: &Text, deed: &Deed) -> Result<Option<Write>, AllocError>
-    ensures { IfOk result (λ write. option_map model_write write ≡ sent_by raw.now (deed_of deed.now)) }
+/// The write that a deed on this raw id sends, with the number that was seen.
+pub fn write_of(raw: &Text, deed: &Deed) -> Result<Write, AllocError>
+    ensures { IfOk result (λ write. model_write write ≡ sent_by raw.now (deed_of deed.now)) }
 {
     match deed {
-        Deed::Deny(_) => Ok(None),
-        Deed::Make(doc) => Ok(Some(Write::Create {
+        Deed::Make(doc) => Ok(Write::Create {
             raw: raw.clone()?,
             doc: doc.clone()?,
-        })),
-        Deed::Remake { seen, doc } => Ok(Some(Write::Put {
+        }),
+        Deed::Remake { seen, doc } => Ok(Write::Put {
             raw: raw.clone()?,
             doc: doc.clone()?,
             expect: Some(*seen),
-        })),
-        Deed::Drop { seen } => Ok(Some(Write::Delete {
+        }),
+        Deed::Drop { seen } => Ok(Write::Delete {
             raw: raw.clone()?,
             expect: Some(*seen),
-        })),
+        }),
     }
 }
 
@@ -59,7 +57,6 @@ pub fn told(
     ensures { IfOk result (λ answer. answer ≡ answer_with_token (told_by reg.now raw.now (act_of act.now) (deed_of deed.now) (item_of item))) }
 {
     match deed {
-        Deed::Deny(_) => Ok(Answer::Refused(Refuse::NotFound)),
         Deed::Make(doc) => made(alloc, reg, raw, act, doc, item),
         Deed::Remake { seen, doc } => remade(alloc, reg, raw, act, *seen, doc, item),
         Deed::Drop { seen } => taken(alloc, act, *seen, item),
