@@ -1,5 +1,5 @@
 -- A write by its cases.
-use Rattle.std.proofs.Common.{◌≡◌, ℕ, Bool, true, false, Option, Some, None, Result, Ok, Err, refl, sym, ◌∙◌, ap, if◌then◌else◌}
+use Rattle.std.proofs.Common.{◌≡◌, ℕ, Bool, true, false, Option, Some, None, Result, Ok, Err, refl, sym, ◌∙◌, ap, subst, if◌then◌else◌}
 use Rattle.std.specs.Prelude.{IfOk}
 use Rattle.base_model.specs.Keyed.{Text, at}
 use Rattle.document_model.specs.Documents.{Doc}
@@ -84,3 +84,8 @@ created old new raw doc (Err x) e w = w
 pub placed : {E : Type 0} (old new : Table (Doc Js)) (raw : Text) (doc : Doc Js) (expect : Option ℕ) (r : Result CodeItem E) → meets expect (number old raw) ≡ true → IfOk r (λ item. (item ≡ coded.Written old.next) × (new ≡ written old raw doc)) → IfOk r (λ item. (new, item_of item) ≡ write old (stores.Write.Put raw doc expect))
 placed old new raw doc expect (Ok item) e w = (λ j. (w.1 j, item_of (w.0 j))) ∙ put_done old raw doc expect e
 placed old new raw doc expect (Err x) e w = w
+
+-- a write of a table under another name
+
+pub written_there : {E : Type 0} (s t new : Table (Doc Js)) (raw : Text) (doc : Doc Js) (r : Result CodeItem E) → s ≡ t → IfOk r (λ item. (item ≡ coded.Written s.next) × (new ≡ written s raw doc)) → IfOk r (λ item. (item ≡ coded.Written t.next) × (new ≡ written t raw doc))
+written_there s t new raw doc r e w = subst (λ (u : Table (Doc Js)). IfOk r (λ item. (item ≡ coded.Written u.next) × (new ≡ written u raw doc))) e w

@@ -12,13 +12,13 @@ use Rattle.text_order.proofs.Order.{below_by_cmp}
 use Rattle.base_model.specs.Keyed.{Text, same, text_lt, at, put, without}
 use Rattle.document_model.specs.Documents.{Doc}
 use Rattle.race_model.specs.Sorted.{IsSorted, AllAbove}
-use Rattle.race_model.specs.Stores.{Cell, Rows, found_one, written, dropped, numbered, renumbered}
+use Rattle.race_model.specs.Stores.{Cell, Rows, Table, found_one, written, dropped, numbered, renumbered}
 use Rattle.race_tables.proofs.Keys.{same_true}
 use Rattle.saved_doc.specs.declared.doc.Row.{Row}
 use Rattle.so_js.specs.declared.js.Js.{Js}
 use Rattle.doc_table.specs.RowLists.{Each, Pairwise, IsRising, IsNumbered, order, below, above, found, with_row, rows_after, is_after, counted_from}
 use Rattle.doc_table.specs.Place.{IsAbove}
-use Rattle.doc_table.specs.Tables.{cell_of, entry_of, entries, table_of, IsTable, is_above, rows_above}
+use Rattle.doc_table.specs.Tables.{cell_of, entry_of, entries, table_of, number, number_in, IsTable, is_above, rows_above}
 use Rattle.doc_table.proofs.Order.{each_weaker, filter_all, filter_none}
 use Rattle.doc_table.proofs.Places.{later_than_at, later_than_above}
 
@@ -66,6 +66,17 @@ at_entries r [] = refl
 at_entries r (x ∷ xs) =
     ap (λ (b : Bool). if b then Some (cell_of x) else at r (entries xs)) (sym (same_by_order r x.raw))
     ∙ chosen (is_eq (order x.raw r)) x (at r (entries xs)) (found r xs) (at_entries r xs)
+
+row_number : (o : Option Row) → option_map (λ x. x.seq) o ≡ number_in (option_map cell_of o)
+row_number None = refl
+row_number (Some x) = refl
+
+pub number_entries : (r : List ℕ) (rows : List Row) (o : Option Row) → o ≡ found r rows → option_map (λ x. x.seq) o ≡ number_in (at r (entries rows))
+number_entries r rows o e = row_number o ∙ ap number_in (ap (option_map cell_of) e ∙ sym (at_entries r rows))
+
+-- the number in a table, by the rows that were looked through
+pub number_by : (t : Table (Doc Js)) (raw r : List ℕ) (rows seen : List Row) (next : ℕ) → seen ≡ rows → r ≡ raw → table_of rows next ≡ t → number_in (at r (entries seen)) ≡ number t raw
+number_by t raw r rows seen next e q v = (λ j. number_in (at (q j) (entries (e j)))) ∙ ap (λ (u : Table (Doc Js)). number u raw) v
 
 put_step : (x y : Row) (ys : List Row) (o : Ordering) → order y.raw x.raw ≡ o → Each (λ z. order y.raw z.raw ≡ Less) ys → put x.raw (cell_of x) (entries ys) ≡ entries (with_row x ys)
     → (if is_eq o then entry_of x ∷ entries ys else if is_gt o then entry_of x ∷ entry_of y ∷ entries ys else entry_of y ∷ put x.raw (cell_of x) (entries ys))

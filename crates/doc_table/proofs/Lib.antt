@@ -5,6 +5,7 @@ pub mod Numbered
 pub mod Puts
 pub mod Live
 pub mod Flank
+pub mod Marks
 pub mod PageLists
 pub mod PageChanges
 pub mod Readers

@@ -8,7 +8,7 @@ use Rattle.saved_doc.specs.declared.doc.Row.{Row}
 use Rattle.doc_table.specs.declared.page.SharedPage.{SharedPage}
 use Rattle.doc_table.specs.RowLists.{Each, IsRising, order}
 use Rattle.doc_table.specs.Place.{IsBelow, IsAbove}
-use Rattle.doc_table.specs.Pages.{page_rows, live_rows, all_rows, rows_of, IsSized, IsPages, IsPageOf}
+use Rattle.doc_table.specs.Pages.{page_rows, live_rows, all_rows, rows_of, IsSound, IsPages, IsPageOf}
 use Rattle.doc_table.proofs.Order.{each_append, each_front, each_back}
 use Rattle.doc_table.proofs.Places.{lower_across, higher_across}
 use Rattle.doc_table.proofs.Live.{each_live}
@@ -41,8 +41,8 @@ head_is (y ∷ t) x h e = (t, ap (λ (z : Row). z ∷ t) (sym e))
 
 rising_at : (ps : List SharedPage) (p : ℕ) (h : SharedPage) (x : Row) → IsPages ps → p < length ps → h ≡ get_or ps p h → x ≡ get_or (page_rows h) 0 x → (t : List Row) × (page_rows h ≡ x ∷ t) × IsRising (all_rows (take p ps) ++ x ∷ (t ++ all_rows (drop (p + 1) ps)))
 rising_at ps p h x s l e q =
-    let sized = each_at IsSized ps p h l e s.sized in
-    let w = head_is (page_rows h) x sized.0 q in
+    let sound = each_at IsSound ps p h l e s.sound in
+    let w = head_is (page_rows h) x sound.0 q in
     let r = subst IsRising (flat_split page_rows ps p h l e) s.rising in
     (w.0, w.1, subst (λ (t : List Row). IsRising (all_rows (take p ps) ++ (t ++ all_rows (drop (p + 1) ps)))) w.1 r)
 

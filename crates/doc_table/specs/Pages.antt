@@ -5,6 +5,7 @@ use Rattle.std.specs.Int.{bit_at}
 use Rattle.saved_doc.specs.declared.doc.Row.{Row}
 use Rattle.doc_table.specs.declared.page.SharedPage.{SharedPage}
 use Rattle.doc_table.specs.RowLists.{Each, IsRising, IsNumbered}
+use Rattle.doc_table.specs.Marks.{IsMarked}
 use Rattle.doc_table.specs.Place.{IsBelow, IsAbove}
 
 -- the rows whose bits are set, where the first one's bit is bit i
@@ -25,12 +26,13 @@ all_rows = flat_map page_rows
 abbrev pub rows_of : List SharedPage → List Row
 rows_of = flat_map live_rows
 
-abbrev pub IsSized : SharedPage → Type 0
-IsSized h = (0 < length (page_rows h)) × (length (page_rows h) ≤ 64)
+-- a page has 1 to 64 rows, and the mark of the first
+abbrev pub IsSound : SharedPage → Type 0
+IsSound h = (0 < length (page_rows h)) × (length (page_rows h) ≤ 64) × IsMarked h.mark (page_rows h)
 
--- each page has 1 to 64 rows, and all rows rise, page after page
+-- the pages are sound, and all rows rise, page after page
 pub record IsPages (pages : List SharedPage) : Type 0 where
-  pub sized : Each IsSized pages
+  pub sound : Each IsSound pages
   pub rising : IsRising (all_rows pages)
 
 -- r can stand in this page alone
@@ -38,6 +40,17 @@ pub record IsPageOf (r : List ℕ) (pages : List SharedPage) (p : ℕ) : Type 0 
   pub within : p < length pages
   pub lower : Each (IsBelow r) (all_rows (take p pages))
   pub higher : Each (IsAbove r) (all_rows (drop (p + 1) pages))
+
+-- where there are pages, r can stand in this one alone
+abbrev pub IsSeat : List ℕ → List SharedPage → ℕ → Type 0
+IsSeat r pages p = 0 < length pages → IsPageOf r pages p
+
+-- the rows of h stand in two pages
+pub record IsHalved (h low high : SharedPage) : Type 0 where
+  pub all : page_rows low ++ page_rows high ≡ page_rows h
+  pub alive : live_rows low ++ live_rows high ≡ live_rows h
+  pub lower : IsSound low
+  pub upper : IsSound high
 
 -- the live rows are those of a table
 pub record IsPaged (pages : List SharedPage) (next : ℕ) : Type 0 where

@@ -2,7 +2,7 @@ ghost use Rattle.std.specs.Prelude.{◌≡◌, ◌==◌, ◌<◌, ◌≤◌, ◌
 ghost use Rattle.std.specs.Option.{option_copied};
 ghost use Rattle.std.specs.Int.{bit_at};
 ghost use Rattle.doc_table.specs.RowLists.{IsRising, rows_after, is_after, counted_from, Each};
-ghost use Rattle.doc_table.specs.Pages.{page_rows, live_rows, all_rows, rows_of, IsPages, IsSized};
+ghost use Rattle.doc_table.specs.Pages.{page_rows, live_rows, all_rows, rows_of, IsPages, IsSound};
 
 use crate::page::{SharedPage, is_live};
 use crate::pages::page_of;
@@ -25,7 +25,7 @@ fn push_page(
     after: Option<&str>,
     n: u64,
 ) -> Result<(), AllocError>
-    requires sized { IsSized held.now }
+    requires sound { IsSound held.now }
     requires few { length out.old.items ≤ n }
     ensures { OnOk result (out.new.items ≡ take n (out.old.items ++ rows_after (option_copied after.entry) (live_rows held.now))) }
 {
@@ -61,7 +61,7 @@ fn take_pages(
     after: Option<&str>,
     n: u64,
 ) -> Result<Vec<Row>, AllocError>
-    requires { Each IsSized pages.now }
+    requires { Each IsSound pages.now }
     ensures { IfOk result (λ v. v.items ≡ take n (rows_after (option_copied after.entry) (rows_of pages.now))) }
 {
     let mut out = Vec::new(alloc);
@@ -90,14 +90,15 @@ pub fn take_rows(
 
 /// Pushes a page, which is shared.
 fn push_shared(out: &mut Vec<SharedPage>, held: &SharedPage) -> Result<(), AllocError>
-    requires { IsSized held.now }
+    requires { IsSound held.now }
     ensures live { OnOk result (rows_of out.new.items ≡ rows_of out.old.items ++ live_rows held.now) }
     ensures all { OnOk result (all_rows out.new.items ≡ all_rows out.old.items ++ page_rows held.now) }
-    ensures sized { OnOk result (Each IsSized out.old.items → Each IsSized out.new.items) }
+    ensures sound { OnOk result (Each IsSound out.old.items → Each IsSound out.new.items) }
 {
     out.push(SharedPage {
         page: held.page.clone()?,
         live: held.live,
+        mark: held.mark,
     })?;
     Ok(())
 }
@@ -128,7 +129,7 @@ fn push_counted_if(out: &mut Vec<Row>, row: &Row, live: bool, from: u64) -> Resu
 
 /// Copies of a page's live rows with the numbers that count from `from`.
 fn counted_page(alloc: Global, held: &SharedPage, from: u64) -> Result<Vec<Row>, AllocError>
-    requires sized { IsSized held.now }
+    requires sound { IsSound held.now }
     requires few { from + length (live_rows held.now) < 2 ^ 64 }
     ensures rows { IfOk result (λ v. v.items ≡ counted_from from (live_rows held.now)) }
     ensures few { IfOk result (λ v. length v.items ≤ 64) }
@@ -146,7 +147,7 @@ fn push_rows(alloc: Global, out: &mut Vec<SharedPage>, rows: Vec<Row>) -> Result
     requires { length rows.items ≤ 64 }
     ensures live { OnOk result (rows_of out.new.items ≡ rows_of out.old.items ++ rows.items) }
     ensures all { OnOk result (all_rows out.new.items ≡ all_rows out.old.items ++ rows.items) }
-    ensures sized { OnOk result (Each IsSized out.old.items → Each IsSized out.new.items) }
+    ensures sound { OnOk result (Each IsSound out.old.items → Each IsSound out.new.items) }
 {
     if rows.is_empty() {
         return Ok(());

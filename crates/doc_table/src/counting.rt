@@ -1,7 +1,7 @@
 ghost use Rattle.std.specs.Prelude.{◌≡◌, ◌<◌, ◌^◌, length};
 ghost use Rattle.std.specs.Option.{option_copied};
 ghost use Rattle.doc_table.specs.RowLists.{IsRising, rows_after};
-ghost use Rattle.doc_table.specs.Pages.{page_rows, live_rows, rows_of, IsPages, IsSized};
+ghost use Rattle.doc_table.specs.Pages.{page_rows, live_rows, rows_of, IsPages, IsSound};
 
 use crate::copies::{keeps, start_of};
 use crate::page::SharedPage;
@@ -9,7 +9,7 @@ use crate::place::is_after;
 
 /// How many live rows of a page are above a raw id, row by row.
 fn count_each(held: &SharedPage, after: Option<&str>) -> u64
-    requires { IsSized held.now }
+    requires { IsSound held.now }
     ensures { result ≡ length (rows_after (option_copied after.entry) (live_rows held.now)) }
 {
     let rows = held.rows();
@@ -25,7 +25,7 @@ fn count_each(held: &SharedPage, after: Option<&str>) -> u64
 /// How many live rows of a page are above a raw id: all of them where none was taken out and the
 /// first is above it.
 fn count_in(held: &SharedPage, after: Option<&str>) -> u64
-    requires sized { IsSized held.now }
+    requires sound { IsSound held.now }
     requires rising { IsRising (page_rows held.now) }
     ensures { result ≡ length (rows_after (option_copied after.entry) (live_rows held.now)) }
 {

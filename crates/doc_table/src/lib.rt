@@ -4,6 +4,7 @@
 mod copies;
 mod counting;
 mod list_table;
+mod mark;
 mod page;
 mod pages;
 mod place;

@@ -1,10 +1,14 @@
-ghost use Rattle.std.specs.Prelude.{◌≡◌, ◌<◌, ◌++◌, [], ◌∷◌, length, OnOk, OnErr, MatchResult, MatchOption, ◌+◌};
+ghost use Rattle.std.specs.Prelude.{◌≡◌, ◌<◌, ◌++◌, [], ◌∷◌, length, OnOk, OnErr, IfOk, MatchResult, MatchOption, ◌+◌, false};
 ghost use Rattle.std.specs.Option.{option_copied};
 ghost use Rattle.doc_table.specs.RowLists.{found, with_row, below, above};
-ghost use Rattle.doc_table.specs.Pages.{rows_of, IsPages, IsPageOf};
+ghost use Rattle.base_model.specs.Keyed.{at};
+ghost use Rattle.doc_table.specs.Pages.{rows_of, IsPages, IsPageOf, IsSeat};
+ghost use Rattle.doc_table.specs.Tables.{entries, number_in};
 
-use crate::page::{SharedPage, has_room, is_dead, put_alone, rewritten, without_row};
-use crate::place::compare;
+use crate::mark::mark;
+use crate::page::{
+    SharedPage, has_room, is_dead, put_alone, rewritten, starts_above, upper_half, without_row,
+};
 use saved_doc::Row;
 use std::alloc::AllocError;
 
@@ -27,6 +31,44 @@ fn put_in_place(pages: &mut Vec<SharedPage>, p: usize, row: Row) -> Result<Optio
     }
 }
 
+/// Moves the upper half of a page to a page behind it, where the page is full, no row of it was taken
+/// out and nothing shares it. Tells whether it did.
+fn halve(pages: &mut Vec<SharedPage>, p: usize) -> Result<bool, AllocError>
+    requires pages { IsPages pages.old.items }
+    requires within { p < length pages.old.items }
+    ensures stays { IfOk result (λ done. done ≡ false → pages.new.items ≡ pages.old.items) }
+    ensures rows { rows_of pages.new.items ≡ rows_of pages.old.items }
+    ensures pages { IsPages pages.new.items }
+    ensures some { 0 < length pages.new.items }
+{
+    let alloc = *pages.allocator();
+    pages.reserve(1)?;
+    match upper_half(alloc, &mut pages[p])? {
+        Some(upper) => {
+            pages.insert(p + 1, upper)?;
+            Ok(true)
+        }
+        None => Ok(false),
+    }
+}
+
+/// The page in which a row can stand, after a page without room for it was halved where it can be.
+fn with_room(pages: &mut Vec<SharedPage>, p: usize, row: &Row) -> Result<usize, AllocError>
+    requires pages { IsPages pages.old.items }
+    requires place { IsPageOf row.now.raw pages.old.items p }
+    ensures place { IfOk result (λ q. IsPageOf row.now.raw pages.new.items q) }
+    ensures rows { rows_of pages.new.items ≡ rows_of pages.old.items }
+    ensures pages { IsPages pages.new.items }
+{
+    if has_room(&pages[p], row) {
+        return Ok(p);
+    }
+    if !halve(pages, p)? {
+        return Ok(p);
+    }
+    Ok(page_of(pages.as_slice(), row.raw.as_str()))
+}
+
 /// Puts a row into its page.
 pub fn put_row(pages: &mut Vec<SharedPage>, p: usize, row: Row) -> Result<(), AllocError>
     requires pages { IsPages pages.old.items }
@@ -35,9 +77,10 @@ pub fn put_row(pages: &mut Vec<SharedPage>, p: usize, row: Row) -> Result<(), Al
     ensures err { OnErr result (rows_of pages.new.items ≡ rows_of pages.old.items) }
     ensures pages { IsPages pages.new.items }
 {
-    match put_in_place(pages, p, row)? {
+    let q = with_room(pages, p, &row)?;
+    match put_in_place(pages, q, row)? {
         None => Ok(()),
-        Some(row) => put_copied(pages, p, row),
+        Some(row) => put_copied(pages, q, row),
     }
 }
 
@@ -85,12 +128,12 @@ pub fn page_of(pages: &[SharedPage], raw: &str) -> usize
     requires pages { IsPages pages.now }
     ensures { IsPageOf raw.now pages.now result }
 {
+    let key = mark(raw);
     let mut low = 0;
     let mut high = pages.len();
     while low < high {
         let mid = low + (high - low) / 2;
-        let page = &pages[mid];
-        if compare(&page.rows()[0], raw).is_gt() {
+        if starts_above(&pages[mid], raw, key) {
             high = mid;
         } else {
             low = mid + 1;
@@ -99,9 +142,10 @@ pub fn page_of(pages: &[SharedPage], raw: &str) -> usize
     low.saturating_sub(1)
 }
 
-/// Puts a row into the page in which it can stand.
-pub fn put_anywhere(pages: &mut Vec<SharedPage>, row: Row) -> Result<(), AllocError>
-    requires { IsPages pages.old.items }
+/// Puts a row into this page, in which it can stand, or into the first one.
+pub fn put_seated(pages: &mut Vec<SharedPage>, p: usize, row: Row) -> Result<(), AllocError>
+    requires pages { IsPages pages.old.items }
+    requires seat { IsSeat row.raw pages.old.items p }
     ensures ok { OnOk result (rows_of pages.new.items ≡ with_row row (rows_of pages.old.items)) }
     ensures err { OnErr result (rows_of pages.new.items ≡ rows_of pages.old.items) }
     ensures pages { IsPages pages.new.items }
@@ -109,7 +153,6 @@ pub fn put_anywhere(pages: &mut Vec<SharedPage>, row: Row) -> Result<(), AllocEr
     if pages.is_empty() {
         return first_page(pages, row);
     }
-    let p = page_of(pages.as_slice(), row.raw.as_str());
     put_row(pages, p, row)
 }
 
@@ -127,14 +170,14 @@ fn first_page(pages: &mut Vec<SharedPage>, row: Row) -> Result<(), AllocError>
     Ok(())
 }
 
-/// Takes out a raw id's row.
-pub fn clear_anywhere(pages: &mut Vec<SharedPage>, raw: &str)
-    requires { IsPages pages.old.items }
+/// Takes out a raw id's row, which stands in this page or in none.
+pub fn clear_seated(pages: &mut Vec<SharedPage>, p: usize, raw: &str)
+    requires pages { IsPages pages.old.items }
+    requires seat { IsSeat raw.now pages.old.items p }
     ensures rows { rows_of pages.new.items ≡ below raw.now (rows_of pages.old.items) ++ above raw.now (rows_of pages.old.items) }
     ensures pages { IsPages pages.new.items }
 {
     if !pages.is_empty() {
-        let p = page_of(pages.as_slice(), raw);
         clear_row(pages, p, raw);
     }
 }
@@ -150,4 +193,21 @@ pub fn look_in<'a>(pages: &'a [SharedPage], raw: &str) -> Option<&'a Row>
     let p = page_of(pages, raw);
     let held = &pages[p];
     held.look(raw)
+}
+
+/// The page in which a raw id stands, or would, and the number of its row, if there is one.
+pub fn find(pages: &[SharedPage], raw: &str) -> (usize, Option<u64>)
+    requires { IsPages pages.now }
+    ensures seat { IsSeat raw.now pages.now result.0 }
+    ensures number { result.1 ≡ number_in (at raw.now (entries (rows_of pages.now))) }
+{
+    if pages.is_empty() {
+        return (0, None);
+    }
+    let p = page_of(pages, raw);
+    let held = &pages[p];
+    match held.look(raw) {
+        Some(row) => (p, Some(row.seq)),
+        None => (p, None),
+    }
 }

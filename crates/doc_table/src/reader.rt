@@ -1,7 +1,7 @@
 ghost use Rattle.std.specs.Prelude.{◌≡◌, ◌<◌, [], ◌∷◌, length, drop, slice_get, MatchOption, IfSome};
 ghost use Rattle.doc_table.specs.RowLists.{Each};
 ghost use Rattle.doc_table.specs.Tables.{entries, entry_of};
-ghost use Rattle.doc_table.specs.Pages.{live_from, page_rows, rows_of, rows_left, IsSized, IsLiveAt};
+ghost use Rattle.doc_table.specs.Pages.{live_from, page_rows, rows_of, rows_left, IsSound, IsLiveAt};
 
 use crate::page::{SharedPage, is_live};
 use saved_doc::Row;
@@ -21,7 +21,7 @@ impl<'a> Model for Rows<'a> {
     ghost use Rattle.race_model.specs.Stores.{Cell};
     ghost use Rattle.so_js.specs.declared.js.Js.{Js};
     ghost use Rattle.doc_table.specs.RowLists.{Each};
-    ghost use Rattle.doc_table.specs.Pages.{rows_left, IsSized};
+    ghost use Rattle.doc_table.specs.Pages.{rows_left, IsSound};
     ghost use Rattle.doc_table.specs.Tables.{entries, rows_code};
 
     ghost Value = { Keyed (Cell (Document Js)) };
@@ -30,13 +30,13 @@ impl<'a> Model for Rows<'a> {
 
     ghost view = { λ r. entries (rows_left r.pages.now r.page r.at) };
 
-    ghost invariant = { λ r. Each IsSized r.pages.now };
+    ghost invariant = { λ r. Each IsSound r.pages.now };
 }
 
 impl<'a> Rows<'a> {
     /// The rows of these pages.
     pub(crate) fn of(pages: &'a [SharedPage]) -> Rows<'a>
-        requires { Each IsSized pages.now }
+        requires { Each IsSound pages.now }
         ensures { result ≡ entries (rows_of pages.now) }
     {
         Rows {
@@ -69,7 +69,7 @@ impl<'a> Rows<'a> {
 
 /// The first live index of a page from `at` on, or one past the end.
 fn next_live(held: &SharedPage, at: usize) -> usize
-    requires { IsSized held.now }
+    requires { IsSound held.now }
     ensures same { live_from held.now.live result (drop result (page_rows held.now)) ≡ live_from held.now.live at (drop at (page_rows held.now)) }
     ensures alive { result < length (page_rows held.now) → IsLiveAt held.now result }
 {
@@ -86,7 +86,7 @@ fn next_live(held: &SharedPage, at: usize) -> usize
 
 /// The first live row's page and index, from an index of a page on.
 fn next_spot(pages: &[SharedPage], page: usize, from: usize) -> (usize, usize)
-    requires { Each IsSized pages.now }
+    requires { Each IsSound pages.now }
     ensures same { rows_left pages.now result.0 result.1 ≡ rows_left pages.now page from }
     ensures alive { IfSome (slice_get pages.now result.0) (λ h. IsLiveAt h result.1) }
 {

@@ -3,12 +3,13 @@ ghost use Rattle.std.specs.Option.{option_copied, option_map};
 ghost use Rattle.base_model.specs.Keyed.{at};
 ghost use Rattle.race_model.specs.Stores.{empty_table, found_one, write, write as done, written, dropped, renumbered};
 ghost use Rattle.race_model.specs.Stores.Write.{Create, Put, Delete};
-ghost use Rattle.doc_table.specs.Tables.{IsTable, entry_of, entries, item_of, write_of, number, rows_above};
+ghost use Rattle.doc_table.specs.Pages.{rows_of, IsPaged, IsSeat};
+ghost use Rattle.doc_table.specs.Tables.{IsTable, entry_of, entries, item_of, write_of, rows_above, table_of};
 
 use crate::copies::{count_pages, share, take_rows};
 use crate::counting::count_above;
 use crate::page::SharedPage;
-use crate::pages::{clear_anywhere, look_in, put_anywhere};
+use crate::pages::{clear_seated, find, look_in, put_seated};
 use crate::place::meets;
 use crate::reader::Rows;
 use crate::writes::{Item, Write};
@@ -75,40 +76,6 @@ impl DocTable {
         Rows::of(self.pages.as_slice())
     }
 
-    fn write(&mut self, raw: Text, doc: SharedDoc) -> Result<Item, AllocError>
-        requires { self.old.next < 2 ^ 63 }
-        ensures ok { IfOk result (λ item. (item ≡ Item.Written self.old.next) × (self.new ≡ written self.old raw doc)) }
-        ensures err { OnErr result (self.new ≡ self.old) }
-    {
-        let row = Row {
-            raw,
-            seq: self.next,
-            doc,
-        };
-        put_anywhere(&mut self.pages, row)?;
-        self.next += 1;
-        Ok(Item::Written(self.next - 1))
-    }
-
-    fn erase(&mut self, raw: &str) -> Item
-        requires { self.old.next < 2 ^ 63 }
-        ensures item { result ≡ Item.Written self.old.next }
-        ensures table { self.new ≡ dropped self.old raw.now }
-    {
-        clear_anywhere(&mut self.pages, raw);
-        self.next += 1;
-        Item::Written(self.next - 1)
-    }
-
-    fn number(&self, raw: &str) -> Option<u64>
-        ensures { result ≡ number self.now raw.now }
-    {
-        match self.get(raw) {
-            Some(row) => Some(row.seq),
-            None => None,
-        }
-    }
-
     /// Adds the row, which no row has the raw id of, with the next number.
     ///
     /// Answers `Exists` with the number of the row where there is one, and else `Written` with the
@@ -118,9 +85,10 @@ impl DocTable {
         ensures ok { IfOk result (λ item. (self.new, item_of item) ≡ write self.old (Create raw doc)) }
         ensures err { OnErr result (self.new ≡ self.old) }
     {
-        match self.number(raw.as_str()) {
+        let (p, now) = find(self.pages.as_slice(), raw.as_str());
+        match now {
             Some(now) => Ok(Item::Exists(now)),
-            None => self.write(raw, doc),
+            None => write_at(&mut self.pages, &mut self.next, p, raw, doc),
         }
     }
 
@@ -139,9 +107,9 @@ impl DocTable {
         ensures ok { IfOk result (λ item. (self.new, item_of item) ≡ write self.old (Put raw doc expect)) }
         ensures err { OnErr result (self.new ≡ self.old) }
     {
-        let now = self.number(raw.as_str());
+        let (p, now) = find(self.pages.as_slice(), raw.as_str());
         if meets(expect, now) {
-            return self.write(raw, doc);
+            return write_at(&mut self.pages, &mut self.next, p, raw, doc);
         }
         Ok(Item::Conflict(now))
     }
@@ -154,11 +122,12 @@ impl DocTable {
         requires { self.old.next < 2 ^ 63 }
         ensures { (self.new, item_of result) ≡ write self.old (Delete raw.now expect) }
     {
-        match self.number(raw) {
+        let (p, now) = find(self.pages.as_slice(), raw);
+        match now {
             None => Item::NotFound,
             Some(now) => {
                 if meets(expect, Some(now)) {
-                    self.erase(raw)
+                    erase_at(&mut self.pages, &mut self.next, p, raw)
                 } else {
                     Item::Conflict(Some(now))
                 }
@@ -216,4 +185,40 @@ impl DocTable {
         let (pages, next) = count_pages(*self.pages.allocator(), self.pages.as_slice())?;
         Ok(DocTable { pages, next })
     }
+}
+
+/// Puts a row into this page, in which it can stand, with the next number.
+fn write_at(
+    pages: &mut Vec<SharedPage>,
+    next: &mut u64,
+    p: usize,
+    raw: Text,
+    doc: SharedDoc,
+) -> Result<Item, AllocError>
+    requires paged { IsPaged pages.old.items next.old }
+    requires seat { IsSeat raw pages.old.items p }
+    requires room { next.old < 2 ^ 63 }
+    ensures ok { IfOk result (λ item. (item ≡ Item.Written next.old) × (table_of (rows_of pages.new.items) next.new ≡ written (table_of (rows_of pages.old.items) next.old) raw doc)) }
+    ensures err { OnErr result (table_of (rows_of pages.new.items) next.new ≡ table_of (rows_of pages.old.items) next.old) }
+    ensures paged { IsPaged pages.new.items next.new }
+{
+    let seq = *next;
+    put_seated(pages, p, Row { raw, seq, doc })?;
+    *next += 1;
+    Ok(Item::Written(seq))
+}
+
+/// Takes a raw id's row out of this page, in which it stands, and counts the next number up.
+fn erase_at(pages: &mut Vec<SharedPage>, next: &mut u64, p: usize, raw: &str) -> Item
+    requires paged { IsPaged pages.old.items next.old }
+    requires seat { IsSeat raw.now pages.old.items p }
+    requires room { next.old < 2 ^ 63 }
+    ensures item { result ≡ Item.Written next.old }
+    ensures table { table_of (rows_of pages.new.items) next.new ≡ dropped (table_of (rows_of pages.old.items) next.old) raw.now }
+    ensures paged { IsPaged pages.new.items next.new }
+{
+    let seq = *next;
+    clear_seated(pages, p, raw);
+    *next += 1;
+    Item::Written(seq)
 }

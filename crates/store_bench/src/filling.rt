@@ -29,7 +29,7 @@ fn document(alloc: Global) -> Result<SharedDoc, AllocError> {
     }
 }
 
-/// Creates of `count` rows from a place of the mixed order on.
+/// Creates of `count` rows with one document, from a place of the mixed order on.
 pub fn creates_from(alloc: Global, place: u64, count: u64) -> Result<List<Write>, AllocError> {
     let doc = document(alloc)?;
     let mut writes = List::new(alloc);
@@ -54,7 +54,7 @@ pub fn write_all(store: &mut IndexStore, writes: List<Write>) -> Result<Served, 
     store.bulk(INDEX, writes)
 }
 
-/// A store of one index with so many rows, made in bulks of 1,000.
+/// A store of one index with so many rows, each created by itself and with a document of its own.
 pub fn filled(alloc: Global, rows: u64) -> Result<IndexStore, AllocError> {
     let mut indices = List::new(alloc);
     indices.push(Opened {
@@ -62,12 +62,9 @@ pub fn filled(alloc: Global, rows: u64) -> Result<IndexStore, AllocError> {
         table: DocTable::empty(alloc),
     })?;
     let mut store = IndexStore::open(alloc, indices)?;
-    let mut place = 0;
-    while place < rows {
-        let count = 1_000.min(rows - place);
-        let writes = creates_from(alloc, place, count)?;
+    for place in 0..rows {
+        let writes = creates_from(alloc, place, 1)?;
         write_all(&mut store, writes)?;
-        place += count;
     }
     Ok(store)
 }

@@ -1,14 +1,16 @@
 #![tactic(auto)]
-//! `store_bench WORK ROWS TIMES`: makes an index of that many rows, in bulks of 1,000 and in a mixed
-//! order of raw ids, and then does the work that many times. It prints how many answers were as they
-//! had to be, and no time. WORK is `gets`, `pits`, `reads` or `bulks`; or `creates`, where each time
-//! is a new index of so many rows and as many creates of one row, and `fills`, the same without these.
+//! `store_bench WORK ROWS TIMES`: makes an index of that many rows by creates in a mixed order of raw
+//! ids, each with a document of its own, and then does the work that many times. It prints how many
+//! answers were as they had to be, and to standard error the nanoseconds of processor time that the
+//! store took for them. WORK is `gets`, `pits`, `reads` or `bulks`; or `creates`, which makes that
+//! many indices of so many rows, and as many creates again, which go to the indices in turn.
 mod filling;
+mod timing;
 mod working;
 
 use anyhow::{Context, Result, bail, ensure};
-use filling::filled;
 use std::env;
+use timing::Spent;
 use working::{bulks, creates, gets, pits, reads};
 
 /// The most rows, and the most times.
@@ -33,16 +35,17 @@ fn main(rt: HostRuntime) -> Result<()> {
         rows <= MOST && times <= MOST,
         "at most {MOST} rows and times"
     );
-    let mut store = filled(rt.alloc(), rows)?;
+    let mut spent = Spent::none();
     let done = match work.as_str() {
-        "creates" => creates(rt.alloc(), rows, times, rows)?,
-        "fills" => creates(rt.alloc(), rows, times, 0)?,
-        "gets" => gets(rt.alloc(), &mut store, rows, times)?,
-        "pits" => pits(&mut store, times)?,
-        "reads" => reads(rt.alloc(), &mut store, times)?,
-        "bulks" => bulks(rt.alloc(), &mut store, rows, times, 1_000)?,
+        "creates" => creates(&rt, rt.alloc(), &mut spent, rows, times)?,
+        "gets" => gets(&rt, rt.alloc(), &mut spent, rows, times)?,
+        "pits" => pits(&rt, rt.alloc(), &mut spent, rows, times)?,
+        "reads" => reads(&rt, rt.alloc(), &mut spent, rows, times)?,
+        "bulks" => bulks(&rt, rt.alloc(), &mut spent, rows, times)?,
         word => bail!("no work {word:?}"),
     };
+    let nanoseconds = spent.nanoseconds();
     println!(rt; "{work}: rows {rows}, times {times}, as they had to be {done}")?;
+    eprintln!(rt; "{nanoseconds}")?;
     Ok(())
 }

@@ -30,11 +30,11 @@ loop-i-preserved c =
     let a = length-append (rows_of (take c.loop-i.i c.args.pages.now)) (live_rows c.index-pages-i.result) in (
       count_more c.args.pages.now c.loop-i.i c.index-pages-i.result c.loop-i.count _ _ _ c.loop-i-test.true c.index-pages-i.is n c.loop-i.invariant.0 c.in_ok-rows.ensures.rows c.in_ok-push_rows.ensures.live,
       count_more c.args.pages.now c.loop-i.i c.index-pages-i.result c.loop-i.count _ _ _ c.loop-i-test.true c.index-pages-i.is n c.loop-i.invariant.1 c.in_ok-rows.ensures.rows c.in_ok-push_rows.ensures.all,
-      c.in_ok-push_rows.ensures.sized c.loop-i.invariant.2,
+      c.in_ok-push_rows.ensures.sound c.loop-i.invariant.2,
       omega arith,
     )
 
 pub returns-clause-pages : goal.returns-clause-pages
 returns-clause-pages c =
     let e = c.loop-i.invariant.1 ∙ ap (λ t. counted_from 0 (rows_of t)) (take_all c.loop-i.i c.args.pages.now (omega arith)) in
-    record { sized = c.loop-i.invariant.2; rising = subst IsRising (sym e) (rising_counted 0 (rows_of c.args.pages.now) c.requires.rising) }
+    record { sound = c.loop-i.invariant.2; rising = subst IsRising (sym e) (rising_counted 0 (rows_of c.args.pages.now) c.requires.rising) }

@@ -19,5 +19,5 @@ loop-i-preserved c = (
 pub returns-clause-few : goal.returns-clause-few
 returns-clause-few c =
     let e = ap length c.rows-rows.ensures in
-    let s = c.requires.sized.1 in
+    let s = c.requires.sound.1 in
     counted_few c.args.from c.args.held.now.live c.loop-i.i 64 c.rows-rows.result.now c.loop-i.out.items c.loop-i.invariant.1 (omega arith)

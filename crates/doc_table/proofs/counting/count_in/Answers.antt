@@ -13,5 +13,5 @@ returns-then-is_after c =
     let r = c.rows-rows.ensures in
     let e = subst (λ (t : List Row). x ≡ get_or t 0 x) r c.index-rows-0.is in
     let l = c.if-held.true in
-    ap length r ∙ whole_page a (page_rows c.args.held.now) x c.requires.rising c.requires.sized.0 c.requires.sized.1 e (sym c.is_after.ensures ∙ c.if-is_after.true)
+    ap length r ∙ whole_page a (page_rows c.args.held.now) x c.requires.rising c.requires.sound.0 c.requires.sound.1 e (sym c.is_after.ensures ∙ c.if-is_after.true)
     ∙ sym (ap (λ (n : ℕ). length (rows_after a (live_from n 0 (page_rows c.args.held.now)))) l)

@@ -11,4 +11,4 @@ returns-then-rows-lt64-clause-room c = let l = ap length c.rows.ensures in λ _.
 pub returns-in-Some-clause-room : goal.returns-in-Some-clause-room
 returns-in-Some-clause-room c =
     let e : is_some (found c.args.row.now.raw (live_rows c.args.held.now)) ≡ true = ap (λ (r : List ℕ). is_some (found r (live_rows c.args.held.now))) (sym c.as_str.ensures) ∙ ap is_some (sym c.in-Some.ensures) in
-    λ _. room_to_replace c.args.row.now c.args.held.now c.requires.sized.1 e
+    λ _. room_to_replace c.args.row.now c.args.held.now c.requires.sound.1 e

@@ -14,4 +14,4 @@ place-place-requires c =
 pub returns-clause-few : goal.returns-clause-few
 returns-clause-few c =
     let e = c.in_ok-put_at.ensures.ok ∙ ap (with_row c.args.row) c.in_ok-rows.ensures in
-    subst (λ (t : List Row). length t ≤ 65) (sym e) (few_rows c.args.row c.args.held.now c.requires.sized)
+    subst (λ (t : List Row). length t ≤ 65) (sym e) (few_rows c.args.row c.args.held.now c.requires.sound)

@@ -8,7 +8,7 @@ use Rattle.doc_table.proofs.page.without_row.Goals as goal
 pub returns-in-Ok : goal.returns-in-Ok
 returns-in-Ok c =
     clear_here c.args.held.now.live c.cleared.result c.args.raw.now (page_rows c.args.held.now) c.place.result c.in-Ok.at c.in-Ok.is
-    (subst (λ (t : List Row). IsPlace c.args.raw.now t c.place.result) c.rows.ensures c.place.ensures) c.requires.sized.1 c.cleared.ensures.same c.cleared.ensures.others
+    (subst (λ (t : List Row). IsPlace c.args.raw.now t c.place.result) c.rows.ensures c.place.ensures) c.requires.sound.1 c.cleared.ensures.same c.cleared.ensures.others
 
 pub returns-in-Err : goal.returns-in-Err
 returns-in-Err c =

@@ -21,7 +21,7 @@ returns-then-is_dead-clause-pages c =
 
 pub returns-else-is_dead-clause-rows : goal.returns-else-is_dead-clause-rows
 returns-else-is_dead-clause-rows c =
-    let h : SharedPage = record { page = c.index_mut.result.now.page; live = c.without_row-live.result } in
+    let h : SharedPage = record { page = c.index_mut.result.now.page; live = c.without_row-live.result; mark = c.index_mut.result.now.mark } in
     let i = same_item c.args.pages.now.items c.args.p c.index_mut.result.now c.index-held.result.now c.requires.place.within c.index_mut.ensures.value c.index-held.ensures in
     let e : rows_of (h ∷ []) ≡ below c.args.raw.now (live_rows c.index-held.result.now) ++ above c.args.raw.now (live_rows c.index-held.result.now) =
     append-nil (live_rows h) ∙ ap (λ (t : SharedPage). live_from c.without_row-live.result 0 (page_rows t)) i ∙ c.without_row-live.ensures in
@@ -29,6 +29,6 @@ returns-else-is_dead-clause-rows c =
 
 pub returns-else-is_dead-clause-pages : goal.returns-else-is_dead-clause-pages
 returns-else-is_dead-clause-pages c =
-    let h : SharedPage = record { page = c.index_mut.result.now.page; live = c.without_row-live.result } in
+    let h : SharedPage = record { page = c.index_mut.result.now.page; live = c.without_row-live.result; mark = c.index_mut.result.now.mark } in
     let i = same_item c.args.pages.now.items c.args.p c.index_mut.result.now c.index-held.result.now c.requires.place.within c.index_mut.ensures.value c.index-held.ensures in
-    subst IsPages (sym (swapped_one c.args.pages.now.items c.args.p h c.requires.place.within)) (pages_kept c.args.pages.now.items c.args.p c.index-held.result.now h c.requires.pages c.requires.place.within c.index-held.ensures (ap page_rows i))
+    subst IsPages (sym (swapped_one c.args.pages.now.items c.args.p h c.requires.place.within)) (pages_kept c.args.pages.now.items c.args.p c.index-held.result.now h c.requires.pages c.requires.place.within c.index-held.ensures (ap page_rows i) (ap (λ (t : SharedPage). t.mark) i))

@@ -2,7 +2,8 @@ use Rattle.std.proofs.Common.{◌≡◌, ◌++◌, [], ◌∷◌, List, length, 
 use Rattle.std.proofs.lemmas.List.{take-append-drop, length-take-le, length-drop}
 use Rattle.doc_table.specs.declared.page.SharedPage.{SharedPage}
 use Rattle.doc_table.specs.RowLists.{Each, with_row}
-use Rattle.doc_table.specs.Pages.{page_rows, live_rows, all_rows, rows_of, IsSized, IsPages}
+use Rattle.doc_table.specs.Marks.{IsMarked}
+use Rattle.doc_table.specs.Pages.{page_rows, live_rows, all_rows, rows_of, IsSound, IsPages}
 use Rattle.doc_table.proofs.PageChanges.{swapped_one, swapped_two, rows_put, pages_put, page_rising}
 use Rattle.doc_table.proofs.pages.put_copied.Goals as goal
 
@@ -21,7 +22,8 @@ returns-then-len-le64-clause-pages c =
     let l = ap length c.in_ok-pages.ensures.page in
     let e : all_rows (h ∷ []) ≡ with_row c.args.row (live_rows c.index.result.now) = append-nil (page_rows h) ∙ c.in_ok-pages.ensures.page ∙ c.in_ok-rows.ensures.rows in
     let some = c.in_ok-rows.ensures.some in
-    let s : Each IsSized (h ∷ []) = ((omega (arith, some), omega arith), tt) in
+    let m : IsMarked h.mark (page_rows h) = subst (IsMarked h.mark) (sym c.in_ok-pages.ensures.page) c.in_ok-pages.ensures.mark in
+    let s : Each IsSound (h ∷ []) = ((omega (arith, some), omega arith, m), tt) in
     subst IsPages (sym (swapped_one c.args.pages.now.items c.args.p h c.requires.place.within)) (pages_put c.args.row c.args.pages.now.items c.args.p c.index.result.now (h ∷ []) c.requires.pages c.requires.place c.index.ensures s e)
 
 pub returns-clause-ok : goal.returns-clause-ok
@@ -48,6 +50,8 @@ returns-clause-pages c =
     let d = length-drop 32 c.in_ok-rows.rows.items in
     let la = ap length a in
     let lb = ap length b0 in
-    let s : Each IsSized (l ∷ r ∷ []) = ((omega (arith, la, t), omega (arith, la, t)), ((omega (arith, lb, d), omega (arith, lb, d, some)), tt)) in
+    let ml : IsMarked l.mark (page_rows l) = subst (IsMarked l.mark) (sym c.in_ok-left.ensures.page) c.in_ok-left.ensures.mark in
+    let mr : IsMarked r.mark (page_rows r) = subst (IsMarked r.mark) (sym c.in_ok-right-2.ensures.page) c.in_ok-right-2.ensures.mark in
+    let s : Each IsSound (l ∷ r ∷ []) = ((omega (arith, la, t), omega (arith, la, t), ml), ((omega (arith, lb, d), omega (arith, lb, d, some), mr), tt)) in
     subst IsPages (sym (ap (λ (t : List SharedPage). set t c.args.p l) c.in_ok-insert.ensures.items ∙ swapped_two c.args.pages.now.items c.args.p l r l c.requires.place.within))
     (pages_put c.args.row c.args.pages.now.items c.args.p c.index.result.now (l ∷ r ∷ []) c.requires.pages c.requires.place c.index.ensures s e)
