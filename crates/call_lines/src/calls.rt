@@ -1,5 +1,6 @@
-ghost use Rattle.std.specs.Prelude.{◌≡◌, true, codes};
+ghost use Rattle.std.specs.Prelude.{◌≡◌, true, codes, IfOk};
 ghost use Rattle.so_js.specs.Tree.{is_sound};
+ghost use Rattle.call_words.specs.Limits.{HasFewObjects};
 ghost use Rattle.call_lines.specs.Reading.{Gives, needed};
 ghost use Rattle.call_lines.specs.Calls.{kind_in, call_as, call_in};
 
@@ -46,7 +47,8 @@ pub enum CallKind {
 /// Want of memory may come at any place.
 pub fn read_call(alloc: Global, js: &Js) -> Result<Call, LineError>
     requires { is_sound js.now ≡ true }
-    ensures { Gives result (call_in js.now) }
+    ensures exact { Gives result (call_in js.now) }
+    ensures few { IfOk result (λ call. HasFewObjects call) }
 {
     let Js::Object(_) = js else {
         return Err(LineError::Refused(InputKind::WrongKind));
@@ -87,7 +89,8 @@ fn read_kind(js: &Js) -> Result<CallKind, LineError>
 
 fn read_call_as(alloc: Global, kind: CallKind, space: Text, js: &Js) -> Result<Call, LineError>
     requires { is_sound js.now ≡ true }
-    ensures { Gives result (call_as kind space js.now) }
+    ensures exact { Gives result (call_as kind space js.now) }
+    ensures few { IfOk result (λ call. HasFewObjects call) }
 {
     match kind {
         CallKind::Create => read_create(alloc, space, js),

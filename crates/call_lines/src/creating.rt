@@ -1,7 +1,8 @@
 //! Calls that write attributes: create, bulkCreate and update.
-ghost use Rattle.std.specs.Prelude.{◌≡◌, true, codes};
+ghost use Rattle.std.specs.Prelude.{◌≡◌, ◌≤◌, true, codes, length, IfOk};
 ghost use Rattle.so_js.specs.Printing.{are_sound};
 ghost use Rattle.so_js.specs.Tree.{is_sound};
+ghost use Rattle.call_words.specs.Limits.{HasFewObjects};
 ghost use Rattle.call_lines.specs.Reading.{Gives, each, optional, has_other};
 ghost use Rattle.call_lines.specs.Parts.{version_in, version_map_in};
 ghost use Rattle.call_lines.specs.Calls.{objects_of, given_over, given_of, new_object_keys, new_object_in, create_keys, create_in, bulk_create_in, update_keys, update_in};
@@ -114,7 +115,8 @@ fn read_new_object(alloc: Global, js: &Js) -> Result<NewObject, LineError>
 
 fn read_each_new_object(alloc: Global, items: &List<Js>) -> Result<List<NewObject>, LineError>
     requires { are_sound items.now ≡ true }
-    ensures { Gives result (each new_object_in items.now) }
+    ensures exact { Gives result (each new_object_in items.now) }
+    ensures counts { IfOk result (λ objects. length objects ≡ length items.now) }
 {
     let mut all = List::new(alloc);
     for item in items.as_slice() {
@@ -125,7 +127,8 @@ fn read_each_new_object(alloc: Global, items: &List<Js>) -> Result<List<NewObjec
 
 fn read_new_objects(alloc: Global, js: &Js) -> Result<List<NewObject>, LineError>
     requires { is_sound js.now ≡ true }
-    ensures { Gives result (objects_of new_object_in js.now) }
+    ensures exact { Gives result (objects_of new_object_in js.now) }
+    ensures few { IfOk result (λ objects. length objects ≤ 10000) }
 {
     read_each_new_object(alloc, needed_objects(js)?)
 }
@@ -155,7 +158,8 @@ fn has_other_than_create(js: &Js) -> bool
 /// A create in this space.
 pub fn read_create(alloc: Global, space: Text, js: &Js) -> Result<Call, LineError>
     requires { is_sound js.now ≡ true }
-    ensures { Gives result (create_in space js.now) }
+    ensures exact { Gives result (create_in space js.now) }
+    ensures few { IfOk result (λ call. HasFewObjects call) }
 {
     let type_name = needed_text(alloc, js, "type")?;
     let id = needed_text(alloc, js, "id")?;
@@ -186,7 +190,8 @@ pub fn read_create(alloc: Global, space: Text, js: &Js) -> Result<Call, LineErro
 /// A bulkCreate in this space.
 pub fn read_bulk_create(alloc: Global, space: Text, js: &Js) -> Result<Call, LineError>
     requires { is_sound js.now ≡ true }
-    ensures { Gives result (bulk_create_in space js.now) }
+    ensures exact { Gives result (bulk_create_in space js.now) }
+    ensures few { IfOk result (λ call. HasFewObjects call) }
 {
     let objects = read_new_objects(alloc, js)?;
     let overwrite = flag(js, "overwrite")?;
@@ -224,7 +229,8 @@ fn has_other_than_update(js: &Js) -> bool
 /// An update in this space.
 pub fn read_update(alloc: Global, space: Text, js: &Js) -> Result<Call, LineError>
     requires { is_sound js.now ≡ true }
-    ensures { Gives result (update_in space js.now) }
+    ensures exact { Gives result (update_in space js.now) }
+    ensures few { IfOk result (λ call. HasFewObjects call) }
 {
     let type_name = needed_text(alloc, js, "type")?;
     let id = needed_text(alloc, js, "id")?;

@@ -1,6 +1,7 @@
 //! The call find.
-ghost use Rattle.std.specs.Prelude.{◌≡◌, false, codes};
+ghost use Rattle.std.specs.Prelude.{◌≡◌, false, codes, IfOk};
 ghost use Rattle.query_model.specs.declared.parts.Sort.TheVariants.{Raw};
+ghost use Rattle.call_words.specs.Limits.{HasFewObjects};
 ghost use Rattle.call_lines.specs.Reading.{Gives, defaulted, has_other};
 ghost use Rattle.call_lines.specs.Calls.{sort_in, order_in, find_keys, find_in};
 
@@ -83,7 +84,8 @@ fn has_other_than_find(js: &Js) -> bool
 
 /// A find in this space.
 pub fn read_find(alloc: Global, space: Text, js: &Js) -> Result<Call, LineError>
-    ensures { Gives result (find_in space js.now) }
+    ensures exact { Gives result (find_in space js.now) }
+    ensures few { IfOk result (λ call. HasFewObjects call) }
 {
     let types = needed_texts(alloc, js, "types")?;
     let page = number_or(js, "page", 1)?;

@@ -1,6 +1,6 @@
 //! The members of an object by their keys: needed ones, whose lack is `MissingField`, optional
 //! ones, and those with a value where they are missing. A member of another kind is `WrongKind`.
-ghost use Rattle.std.specs.Prelude.{◌≡◌, true, false, not, [], codes, IfOk};
+ghost use Rattle.std.specs.Prelude.{◌≡◌, ◌≤◌, true, false, not, [], codes, length, IfOk};
 ghost use Rattle.std.specs.List.{list_any};
 ghost use Rattle.std.specs.Str.{bytes_eq};
 ghost use Rattle.std.specs.Result.{result_map_both};
@@ -124,6 +124,7 @@ pub fn references(alloc: Global, js: &Js) -> Result<List<Ref>, LineError>
 pub fn needed_objects(js: &Js) -> Result<&List<Js>, InputKind>
     ensures value { result_map_both (λ items. items.now) (λ e. e) result ≡ needed limited_in (codes "objects") js.now }
     ensures sound { is_sound js.now ≡ true → IfOk result (λ items. are_sound items.now ≡ true) }
+    ensures few { IfOk result (λ items. length items.now ≤ 10000) }
 {
     match member(js, "objects") {
         Some(js) => limited(js),
@@ -134,6 +135,7 @@ pub fn needed_objects(js: &Js) -> Result<&List<Js>, InputKind>
 fn limited(js: &Js) -> Result<&List<Js>, InputKind>
     ensures value { result_map_both (λ items. items.now) (λ e. e) result ≡ limited_in js.now }
     ensures sound { is_sound js.now ≡ true → IfOk result (λ items. are_sound items.now ≡ true) }
+    ensures few { IfOk result (λ items. length items.now ≤ 10000) }
 {
     let Some(items) = js.as_items() else {
         return Err(InputKind::WrongKind);

@@ -1,5 +1,6 @@
 //! Calls on objects by their types and ids: get, resolve, bulkGet, delete and share.
-ghost use Rattle.std.specs.Prelude.{codes};
+ghost use Rattle.std.specs.Prelude.{codes, IfOk};
+ghost use Rattle.call_words.specs.Limits.{HasFewObjects};
 ghost use Rattle.call_lines.specs.Reading.{Gives, each, optional};
 ghost use Rattle.call_lines.specs.Parts.{target_in};
 ghost use Rattle.call_lines.specs.Calls.{objects_of, get_in, resolve_in, bulk_get_in, delete_in, share_in};
@@ -60,7 +61,8 @@ fn read_targets(alloc: Global, js: &Js) -> Result<List<Target>, LineError>
 
 /// A get in this space.
 pub fn read_get(alloc: Global, space: Text, js: &Js) -> Result<Call, LineError>
-    ensures { Gives result (get_in space js.now) }
+    ensures exact { Gives result (get_in space js.now) }
+    ensures few { IfOk result (λ call. HasFewObjects call) }
 {
     let type_name = needed_text(alloc, js, "type")?;
     let id = needed_text(alloc, js, "id")?;
@@ -75,7 +77,8 @@ pub fn read_get(alloc: Global, space: Text, js: &Js) -> Result<Call, LineError>
 
 /// A resolve in this space.
 pub fn read_resolve(alloc: Global, space: Text, js: &Js) -> Result<Call, LineError>
-    ensures { Gives result (resolve_in space js.now) }
+    ensures exact { Gives result (resolve_in space js.now) }
+    ensures few { IfOk result (λ call. HasFewObjects call) }
 {
     let type_name = needed_text(alloc, js, "type")?;
     let id = needed_text(alloc, js, "id")?;
@@ -90,7 +93,8 @@ pub fn read_resolve(alloc: Global, space: Text, js: &Js) -> Result<Call, LineErr
 
 /// A bulkGet in this space.
 pub fn read_bulk_get(alloc: Global, space: Text, js: &Js) -> Result<Call, LineError>
-    ensures { Gives result (bulk_get_in space js.now) }
+    ensures exact { Gives result (bulk_get_in space js.now) }
+    ensures few { IfOk result (λ call. HasFewObjects call) }
 {
     let objects = read_targets(alloc, js)?;
     if has_other_than(js, &["do", "space", "objects"]) {
@@ -101,7 +105,8 @@ pub fn read_bulk_get(alloc: Global, space: Text, js: &Js) -> Result<Call, LineEr
 
 /// A delete in this space.
 pub fn read_delete(alloc: Global, space: Text, js: &Js) -> Result<Call, LineError>
-    ensures { Gives result (delete_in space js.now) }
+    ensures exact { Gives result (delete_in space js.now) }
+    ensures few { IfOk result (λ call. HasFewObjects call) }
 {
     let type_name = needed_text(alloc, js, "type")?;
     let id = needed_text(alloc, js, "id")?;
@@ -118,7 +123,8 @@ pub fn read_delete(alloc: Global, space: Text, js: &Js) -> Result<Call, LineErro
 
 /// A share in this space.
 pub fn read_share(alloc: Global, space: Text, js: &Js) -> Result<Call, LineError>
-    ensures { Gives result (share_in space js.now) }
+    ensures exact { Gives result (share_in space js.now) }
+    ensures few { IfOk result (λ call. HasFewObjects call) }
 {
     let type_name = needed_text(alloc, js, "type")?;
     let id = needed_text(alloc, js, "id")?;

@@ -2,3 +2,4 @@ pub mod Mapped
 pub mod Told
 pub mod Product
 pub mod Asking
+pub mod Limits

@@ -1,6 +1,7 @@
 //! The parts of lines: the tree of a line, its registry, its call, its raw id and its document.
 ghost use Rattle.std.specs.Prelude.{◌≡◌, IfOk, true, codes};
 ghost use Rattle.so_js.specs.Tree.{is_sound};
+ghost use Rattle.call_words.specs.Limits.{HasFewObjects};
 ghost use Rattle.call_lines.specs.Reading.{Gives, needed};
 ghost use Rattle.call_lines.specs.Calls.{call_in};
 ghost use Rattle.scenario.specs.Lines.{tree_of_line, registry_of, call_of, raw_in, doc_of};
@@ -58,7 +59,8 @@ pub fn read_registry(alloc: Global, js: &Js) -> Result<Registry, LineError>
 /// `UnknownField`.
 pub fn read_call_line(alloc: Global, js: &Js) -> Result<Call, LineError>
     requires { is_sound js.now ≡ true }
-    ensures { Gives result (call_of js.now) }
+    ensures exact { Gives result (call_of js.now) }
+    ensures few { IfOk result (λ call. HasFewObjects call) }
 {
     let call = needed_call(alloc, js)?;
     if has_other_than(js, &["line", "call"]) {
@@ -69,7 +71,8 @@ pub fn read_call_line(alloc: Global, js: &Js) -> Result<Call, LineError>
 
 fn needed_call(alloc: Global, js: &Js) -> Result<Call, LineError>
     requires { is_sound js.now ≡ true }
-    ensures { Gives result (needed call_in (codes "call") js.now) }
+    ensures exact { Gives result (needed call_in (codes "call") js.now) }
+    ensures few { IfOk result (λ call. HasFewObjects call) }
 {
     match member(js, "call") {
         Some(js) => read_call(alloc, js),

@@ -3,6 +3,8 @@ ghost use Rattle.std.specs.Io.KnownBytes.{prepend_known, IsAtEnd};
 ghost use Rattle.base_model.specs.Keyed.{at};
 ghost use Rattle.wire_io.specs.Causes.{Rose};
 ghost use Rattle.so_js.specs.Tree.{is_sound};
+ghost use Rattle.call_words.specs.Limits.{HasFewObjects};
+ghost use Rattle.doc_table.specs.RowLists.{Each};
 ghost use Rattle.call_lines.specs.Reading.{Gives};
 ghost use Rattle.scenario.specs.Scenario.{placed, with_line, with_tree, with_placed, with_kind, with_registry, with_doc_line, with_doc, with_call, TakesLine, ReadsScenario, FaultIsFirst};
 
@@ -86,6 +88,7 @@ pub fn read_scenario<S: Source>(alloc: Global, source: &mut S) -> Result<Scenari
     ensures fault { result ≡ Err ScenarioError.ReadFault → Rose (S.faults source.old) (S.faults source.new) }
     ensures fault_first { result ≡ Err ScenarioError.ReadFault → FaultIsFirst (S.left source.old) (S.left source.new) }
     ensures few { IfOk result (λ s. length s.table.rows ≤ 26214400) }
+    ensures few_objects { IfOk result (λ s. Each (λ a. HasFewObjects a.call) s.asks) }
 {
     let mut lines = Lines::new(alloc);
     let mut scenario = Scenario {
@@ -116,6 +119,7 @@ fn take_numbered(
     ensures exact { TakesLine result (placed at (with_line scenario at line.now)) }
     ensures next { IfOk result (λ s. s.table.next ≤ scenario.table.next + 1) }
     ensures rows { IfOk result (λ s. length s.table.rows ≤ length scenario.table.rows + 1) }
+    ensures few_objects { Each (λ a. HasFewObjects a.call) scenario.asks → IfOk result (λ s. Each (λ a. HasFewObjects a.call) s.asks) }
 {
     match take_line(alloc, scenario, at, line) {
         Ok(scenario) => Ok(scenario),
@@ -129,6 +133,7 @@ fn take_line(alloc: Global, scenario: Scenario, at: u64, line: &[u8]) -> Result<
     ensures exact { Gives result (with_line scenario at line.now) }
     ensures next { IfOk result (λ s. s.table.next ≤ scenario.table.next + 1) }
     ensures rows { IfOk result (λ s. length s.table.rows ≤ length scenario.table.rows + 1) }
+    ensures few_objects { Each (λ a. HasFewObjects a.call) scenario.asks → IfOk result (λ s. Each (λ a. HasFewObjects a.call) s.asks) }
 {
     if line.is_empty() {
         return Ok(scenario);
@@ -144,6 +149,7 @@ fn take_tree(alloc: Global, scenario: Scenario, at: u64, js: &Js) -> Result<Scen
     ensures exact { Gives result (with_tree scenario at js.now) }
     ensures next { IfOk result (λ s. s.table.next ≤ scenario.table.next + 1) }
     ensures rows { IfOk result (λ s. length s.table.rows ≤ length scenario.table.rows + 1) }
+    ensures few_objects { Each (λ a. HasFewObjects a.call) scenario.asks → IfOk result (λ s. Each (λ a. HasFewObjects a.call) s.asks) }
 {
     if !matches!(js, Js::Object(_)) {
         return Err(LineError::Refused(InputKind::NotObject));
@@ -165,6 +171,7 @@ fn take_placed(
     ensures exact { Gives result (with_placed scenario at kind js.now) }
     ensures next { IfOk result (λ s. s.table.next ≤ scenario.table.next + 1) }
     ensures rows { IfOk result (λ s. length s.table.rows ≤ length scenario.table.rows + 1) }
+    ensures few_objects { Each (λ a. HasFewObjects a.call) scenario.asks → IfOk result (λ s. Each (λ a. HasFewObjects a.call) s.asks) }
 {
     if kind.is_unbuilt() {
         return Err(LineError::Refused(InputKind::NotBuilt));
@@ -187,6 +194,7 @@ fn take_kind(
     ensures exact { Gives result (with_kind scenario at kind js.now) }
     ensures next { IfOk result (λ s. s.table.next ≤ scenario.table.next + 1) }
     ensures rows { IfOk result (λ s. length s.table.rows ≤ length scenario.table.rows + 1) }
+    ensures few_objects { Each (λ a. HasFewObjects a.call) scenario.asks → IfOk result (λ s. Each (λ a. HasFewObjects a.call) s.asks) }
 {
     match kind {
         LineKind::Registry => {
@@ -207,6 +215,7 @@ fn take_kind(
 fn with_registry(scenario: Scenario, registry: Registry) -> Result<Scenario, InputKind>
     ensures exact { result ≡ with_registry scenario registry }
     ensures table { IfOk result (λ s. s.table ≡ scenario.table) }
+    ensures asks { IfOk result (λ s. s.asks ≡ scenario.asks) }
 {
     let Scenario {
         registry: earlier,
@@ -231,6 +240,7 @@ fn take_doc(alloc: Global, scenario: Scenario, js: &Js) -> Result<Scenario, Line
     ensures exact { Gives result (with_doc_line scenario js.now) }
     ensures next { IfOk result (λ s. s.table.next ≤ scenario.table.next + 1) }
     ensures rows { IfOk result (λ s. length s.table.rows ≤ length scenario.table.rows + 1) }
+    ensures few_objects { Each (λ a. HasFewObjects a.call) scenario.asks → IfOk result (λ s. Each (λ a. HasFewObjects a.call) s.asks) }
 {
     let raw = needed_raw(js)?;
     let doc = needed_doc(alloc, js)?;
@@ -255,6 +265,7 @@ fn with_doc(alloc: Global, scenario: Scenario, raw: Text, doc: Doc) -> Result<Sc
     ensures exact { IfOk result (λ s. s ≡ with_doc scenario raw doc) }
     ensures next { IfOk result (λ s. s.table.next ≤ scenario.table.next + 1) }
     ensures rows { IfOk result (λ s. length s.table.rows ≤ length scenario.table.rows + 1) }
+    ensures few_objects { Each (λ a. HasFewObjects a.call) scenario.asks → IfOk result (λ s. Each (λ a. HasFewObjects a.call) s.asks) }
 {
     let Scenario {
         registry,
@@ -270,7 +281,8 @@ fn with_doc(alloc: Global, scenario: Scenario, raw: Text, doc: Doc) -> Result<Sc
 }
 
 fn with_call(scenario: Scenario, at: u64, call: Call) -> Result<Scenario, AllocError>
-    ensures { IfOk result (λ s. s ≡ with_call scenario at call) }
+    ensures exact { IfOk result (λ s. s ≡ with_call scenario at call) }
+    ensures few_objects { HasFewObjects call → Each (λ a. HasFewObjects a.call) scenario.asks → IfOk result (λ s. Each (λ a. HasFewObjects a.call) s.asks) }
 {
     let Scenario {
         registry,

@@ -36,6 +36,7 @@ loop-scenario-preserved g c =
       omega (arith, c.in_ok-scenario-in-Text.ensures.rows),
       omega (arith, counted),
       counted.1,
+      c.in_ok-scenario-in-Text.ensures.few_objects l.invariant.8,
     )
 
 pub returns-in_err-line-clause-fault_first : goal.returns-in_err-line-clause-fault_first
