@@ -1,25 +1,12 @@
-//! The command `apply`, from the bytes of its input to the bytes of its output: the lines of an
-//! input, the calls that they state, the store that answers them, and the lines that are printed.
+//! The command `apply`, from the bytes of its input to the bytes of its output: the calls of an input
+//! one after another on one store, and the lines of their answers.
 #![tactic(auto)]
 
-mod attributes;
-mod call;
-mod fields;
-mod line_kind;
-mod members;
+mod opening;
 mod plain_call;
-mod registry;
-mod report;
-mod scenario;
+mod running;
 mod status;
-mod store;
 
-pub use attributes::Attributes;
-pub use call::{Call, CallKind, read_call_line};
-pub use line_kind::LineKind;
-pub use members::LineError;
 pub use plain_call::plain;
-pub use registry::{Registry, read_registry};
-pub use scenario::{Placed, Scenario, ScenarioError, read_scenario};
+pub use scenario::ScenarioError;
 pub use status::Status;
-pub use store::{Answer, Refuse, Row, Store};

@@ -1,24 +1,23 @@
-ghost use Rattle.std.specs.Prelude.{◌≡◌, ◌≤◌, [], Err, IfOk, IfSome, false};
+ghost use Rattle.std.specs.Prelude.{◌≡◌, ◌≤◌, length, Err, IfOk, IfSome, false};
 ghost use Rattle.wire_io.specs.Causes.{Rose};
-ghost use Rattle.kibana_main.specs.Report.{answers_text};
-ghost use Rattle.kibana_main.specs.Scenario.{FaultIsFirst};
-ghost use Rattle.kibana_main.specs.Store.{answers_from};
-ghost use Rattle.kibana_main.specs.Output.{is_apply_words, scenario_text, outcome_of, usage_outcome, Ends, Spends, IsCertain};
+ghost use Rattle.call_words.specs.Limits.{HasFewObjects};
+ghost use Rattle.doc_table.specs.RowLists.{Each};
+ghost use Rattle.scenario.specs.Scenario.{FaultIsFirst};
+ghost use Rattle.kibana_main.specs.Output.{is_apply_words, scenario_outcome, outcome_of, usage_outcome, Ends, Spends, IsCertain};
 
-use crate::registry::Registry;
-use crate::report::{add_answer_line, fault_line};
-use crate::scenario::{Placed, Scenario, ScenarioError, read_scenario};
+use crate::running::run;
 use crate::status::Status;
-use crate::store::Store;
 use plain_data::{List, Text};
+use report::fault_line;
+use scenario::{Scenario, ScenarioError, read_scenario};
 use std::alloc::{AllocError, Global};
 use wire_io::{InputFault, Sink, Source, write_all_of};
 
 /// How a run is to end, and what it is to write.
 #[derive(Debug, Drop)]
-struct Outcome {
-    status: Status,
-    text: List<u8>,
+pub(crate) struct Outcome {
+    pub(crate) status: Status,
+    pub(crate) text: List<u8>,
 }
 
 /// Why no outcome is known.
@@ -55,8 +54,9 @@ pub fn plain<S: Source, K: Sink>(
     ensures usage { is_apply_words words.now ≡ false
         → Ends usage_outcome (K.held sink.old) (K.held sink.new) result }
 
-    // At Ok the input was read to its end.
+    // At Ok and JournalFull the input was read to its end.
     ensures spent { result ≡ Status.Ok → Spends (S.left source.old) (S.left source.new) }
+    ensures spent_full { result ≡ Status.JournalFull → Spends (S.left source.old) (S.left source.new) }
     ensures read { S.faults source.old ≤ S.faults source.new }
     ensures read_fault { result ≡ Status.ReadFault → Rose (S.faults source.old) (S.faults source.new) }
 
@@ -80,6 +80,7 @@ fn judge<S: Source>(alloc: Global, words: &List<Text>, source: &mut S) -> Result
     ensures usage { is_apply_words words.now ≡ false → IfOk result (λ o. o ≡ usage_outcome) }
     ensures certain { IfOk result (λ o. IsCertain o.status) }
     ensures spent { IfOk result (λ o. o.status ≡ Status.Ok → Spends (S.left source.old) (S.left source.new)) }
+    ensures spent_full { IfOk result (λ o. o.status ≡ Status.JournalFull → Spends (S.left source.old) (S.left source.new)) }
     ensures known { is_apply_words words.now ≡ false → result ≡ Err Unknown.ReadFault → ⊥ }
     ensures later { S.faults source.old ≤ S.faults source.new }
     ensures fault { result ≡ Err Unknown.ReadFault → Rose (S.faults source.old) (S.faults source.new) }
@@ -90,10 +91,10 @@ fn judge<S: Source>(alloc: Global, words: &List<Text>, source: &mut S) -> Result
         return Ok(outcome);
     }
     match read_scenario(alloc, source) {
-        Ok(scenario) => Ok(Outcome {
-            status: Status::Ok,
-            text: output(alloc, scenario)?,
-        }),
+        Ok(scenario) => {
+            let outcome = output(alloc, &scenario)?;
+            Ok(outcome)
+        }
         Err(ScenarioError::Memory) => Err(Unknown::Memory),
         Err(ScenarioError::ReadFault) => Err(Unknown::ReadFault),
         Err(ScenarioError::BadInput { line, kind }) => Ok(Outcome {
@@ -125,34 +126,17 @@ fn usage(alloc: Global) -> Result<Outcome, AllocError>
     })
 }
 
-/// What is written for a scenario.
-fn output(alloc: Global, scenario: Scenario) -> Result<List<u8>, AllocError>
-    ensures { IfOk result (λ text. text ≡ scenario_text scenario) }
+/// What becomes of a scenario.
+fn output(alloc: Global, scenario: &Scenario) -> Result<Outcome, AllocError>
+    requires rows { length scenario.now.table.rows ≤ 26214400 }
+    requires objects { Each (λ a. HasFewObjects a.call) scenario.now.asks }
+    ensures { IfOk result (λ o. o ≡ scenario_outcome scenario.now) }
 {
-    let Scenario { registry, calls } = scenario;
-    match registry {
-        None => Ok(List::new(alloc)),
-        Some(registry) => {
-            let lines = answer_lines(alloc, &registry, calls)?;
-            Ok(lines)
-        }
+    match &scenario.registry {
+        None => Ok(Outcome {
+            status: Status::Ok,
+            text: List::new(alloc),
+        }),
+        Some(registry) => run(alloc, registry, &scenario.table, &scenario.asks),
     }
-}
-
-/// The lines of the answers to the calls, one after another on an empty store.
-fn answer_lines(
-    alloc: Global,
-    registry: &Registry,
-    calls: List<Placed>,
-) -> Result<List<u8>, AllocError>
-    ensures { IfOk result (λ lines. lines ≡ answers_text registry.now.version (answers_from registry.now [] calls)) }
-{
-    let mut store = Store::new(alloc);
-    let mut lines = List::new(alloc);
-    for placed in calls.into_vec() {
-        let Placed { at, call } = placed;
-        let answer = store.call(registry, call)?;
-        add_answer_line(alloc, &mut lines, registry.version, at, answer)?;
-    }
-    Ok(lines)
 }

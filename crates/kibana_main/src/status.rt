@@ -21,10 +21,13 @@ pub enum Status {
     WriteFault,
     /// A limit is passed before any line is refused; a fault line was written.
     Limit(Which),
+    /// The journal holds as many entries as it may, and a further request came; the output as far as
+    /// the run went was written.
+    JournalFull,
 }
 
 impl Status {
-    /// The number with which the program ends, 0 to 6 in the order of the variants.
+    /// The number with which the program ends, as the variants are listed: 0 to 6, and 8.
     pub fn number(self) -> u8
         ensures { result ≡ number_of self }
     {
@@ -36,6 +39,7 @@ impl Status {
             Status::ReadFault => 4,
             Status::WriteFault => 5,
             Status::Limit(_) => 6,
+            Status::JournalFull => 8,
         }
     }
 }

@@ -1,9 +1,0 @@
-use Rattle.std.proofs.Common.{◌≡◌, drop}
-use Rattle.std.specs.List.{list_any}
-use Rattle.std.specs.Str.{bytes_eq}
-use Rattle.kibana_main.proofs.members.any_named.Given as goal
-
--- none so far
-abbrev pub invariant-loop-m : goal.invariant-loop-m
-invariant-loop-m l =
-    list_any (λ m. list_any (λ k. bytes_eq k.now m.key) l.keys) (drop l.m-index l.m-items) ≡ list_any (λ m. list_any (λ k. bytes_eq k.now m.key) l.keys) l.m-items

@@ -1,0 +1,4 @@
+pub mod Forms
+pub mod Mapped
+pub mod Paging
+pub mod Following

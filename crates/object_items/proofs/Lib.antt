@@ -1,0 +1,4 @@
+mod Lists
+mod Placed
+mod Rows
+mod Results

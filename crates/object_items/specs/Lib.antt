@@ -1,0 +1,4 @@
+pub mod Mapped
+pub mod Turning
+pub mod Judging
+pub mod Answering

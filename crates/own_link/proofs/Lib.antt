@@ -1,0 +1,4 @@
+pub mod Sends
+pub mod Journals
+pub mod Steps
+pub mod Refusals
