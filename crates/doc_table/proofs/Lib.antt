@@ -6,6 +6,7 @@ pub mod Puts
 pub mod Live
 pub mod Flank
 pub mod Marks
+pub mod MarkLists
 pub mod PageLists
 pub mod PageChanges
 pub mod Readers

@@ -1,5 +1,5 @@
 -- The marks of texts and of first rows.
-use Rattle.std.proofs.Common.{◌≡◌, ℕ, zero, suc, ◌+◌, ◌-◌, ◌*◌, ◌^◌, ◌<◌, ◌≤◌, ◌⊎◌, inl, inr, List, [], ◌∷◌, ◌++◌, length, take, drop, get_or, Result, Ok, Err, Option, Some, refl, sym, ◌∙◌, ap, subst, arith, true, false}
+use Rattle.std.proofs.Common.{◌≡◌, ℕ, zero, suc, ◌+◌, ◌*◌, ◌^◌, ◌<◌, ◌≤◌, ◌⊎◌, inl, inr, List, [], ◌∷◌, length, take, drop, get_or, Option, Some, refl, sym, ◌∙◌, ap, subst, arith, true, false}
 use Rattle.std.specs.Prelude.{IfSome, slice_get}
 use Rattle.std.proofs.Math.Nat.{mul-le-mul_right, pow-suc, pow-le-pow_right, one-le-pow}
 use Rattle.std.proofs.lemmas.Grind.{pow_more}
@@ -9,11 +9,10 @@ use Rattle.std.specs.Ordering.{nat_cmp, is_gt, ordering_then}
 use Rattle.std.specs.declared.cmp.Ordering.{Ordering}
 use Rattle.std.specs.declared.cmp.Ordering.TheVariants.{Less, Equal, Greater}
 use Rattle.saved_doc.specs.declared.doc.Row.{Row}
-use Rattle.doc_table.specs.RowLists.{Each, order, above, with_row}
-use Rattle.doc_table.specs.Place.{IsPlace}
-use Rattle.doc_table.specs.Marks.{mark_of, IsByte, IsMarked, IsBehind}
+use Rattle.doc_table.specs.declared.mark.Mark.{Mark}
+use Rattle.doc_table.specs.RowLists.{Each, order}
+use Rattle.doc_table.specs.Marks.{mark_of, IsByte, IsMarkOf, IsMarked}
 use Rattle.doc_table.proofs.Places.{flip_less}
-use Rattle.doc_table.proofs.Split.{below-Splits}
 
 mark_nil : (k : ℕ) → mark_of k [] ≡ 0
 unfolding mark_of
@@ -94,29 +93,89 @@ mark_less (suc k) (x ∷ a) (y ∷ b) e f h =
       ])
     ]
 
+-- where the first k bytes are the same, the next j decide
+pub mark_after : (k j : ℕ) (a b : List ℕ) → Each IsByte a → Each IsByte b → mark_of k a ≡ mark_of k b → mark_of j (drop k a) < mark_of j (drop k b) → order a b ≡ Less
+unfolding mark_of
+mark_after zero j a b e f q h = mark_less j a b e f h
+mark_after (suc k) j [] [] e f q h = absurd (omega arith)
+mark_after (suc k) j [] (y ∷ b) e f q h = refl
+mark_after (suc k) j (x ∷ a) [] e f q h = let z = mark_nil j in absurd (omega arith)
+mark_after (suc k) j (x ∷ a) (y ∷ b) e f q h =
+    let n = mark_bound k b f.1 in
+    elim (cases_order x y) [
+      | inl s ↦ (let p : x * 256 ^ k ≡ y * 256 ^ k = ap (λ (n : ℕ). n * 256 ^ k) s in order_same x y a b s (mark_after k j a b e.1 f.1 (omega arith) h))
+      | inr w ↦ (elim w [
+        | inl l ↦ order_less x y a b l
+        | inr l ↦ (let m : (y + 1) * 256 ^ k ≤ x * 256 ^ k = mul-le-mul_right (256 ^ k) (omega arith) in absurd (omega arith))
+      ])
+    ]
+
+-- ---- the order of marks
+
+nat_less : (x y : ℕ) → nat_cmp x y ≡ Less → x < y
+nat_less x y e = elim (cases_order x y) [
+  | inl q ↦ (let f = nat_cmp_is x y Equal q in cc)
+  | inr w ↦ (elim w [ inl l ↦ l | inr l ↦ (let f = nat_cmp_is x y Greater l in cc) ])
+]
+
+nat_equal : (x y : ℕ) → nat_cmp x y ≡ Equal → x ≡ y
+nat_equal x y e = elim (cases_order x y) [
+  | inl q ↦ q
+  | inr w ↦ (elim w [ inl l ↦ (let f = nat_cmp_is x y Less l in cc) | inr l ↦ (let f = nat_cmp_is x y Greater l in cc) ])
+]
+
+nat_greater : (x y : ℕ) → nat_cmp x y ≡ Greater → y < x
+nat_greater x y e = elim (cases_order x y) [
+  | inl q ↦ (let f = nat_cmp_is x y Equal q in cc)
+  | inr w ↦ (elim w [ inl l ↦ (let f = nat_cmp_is x y Less l in cc) | inr l ↦ l ])
+]
+
+-- the order of two marks
+abbrev pub marks_order : Mark → Mark → Ordering
+marks_order m n = ordering_then (nat_cmp m.first n.first) (nat_cmp m.second n.second)
+
+then_less : (o p : Ordering) → ordering_then o p ≡ Less → (o ≡ Less) ⊎ ((o ≡ Equal) × (p ≡ Less))
+then_less Less p e = inl refl
+then_less Equal p e = inr (refl, e)
+then_less Greater p e = cc
+
+then_greater : (o p : Ordering) → ordering_then o p ≡ Greater → (o ≡ Greater) ⊎ ((o ≡ Equal) × (p ≡ Greater))
+then_greater Less p e = cc
+then_greater Equal p e = inr (refl, e)
+then_greater Greater p e = inl refl
+
+first_less : (m n : Mark) (a b : List ℕ) → IsMarkOf m a → IsMarkOf n b → m.first < n.first → order a b ≡ Less
+first_less m n a b s t h = let p = s.first in let q = t.first in mark_less 16 a b s.bytes t.bytes (omega arith)
+
+second_less : (m n : Mark) (a b : List ℕ) → IsMarkOf m a → IsMarkOf n b → m.first ≡ n.first → m.second < n.second → order a b ≡ Less
+second_less m n a b s t e h = let p = s.second in let q = t.second in mark_after 16 16 a b s.bytes t.bytes (sym s.first ∙ e ∙ t.first) (omega arith)
+
+pub marks_less : (m n : Mark) (a b : List ℕ) → IsMarkOf m a → IsMarkOf n b → marks_order m n ≡ Less → order a b ≡ Less
+marks_less m n a b s t e = elim (then_less (nat_cmp m.first n.first) (nat_cmp m.second n.second) e) [
+  | inl l ↦ first_less m n a b s t (nat_less m.first n.first l)
+  | inr w ↦ second_less m n a b s t (nat_equal m.first n.first w.0) (nat_less m.second n.second w.1)
+]
+
+pub marks_greater : (m n : Mark) (a b : List ℕ) → IsMarkOf m a → IsMarkOf n b → marks_order m n ≡ Greater → order a b ≡ Greater
+marks_greater m n a b s t e = elim (then_greater (nat_cmp m.first n.first) (nat_cmp m.second n.second) e) [
+  | inl l ↦ flip_less b a (first_less n m b a t s (nat_greater m.first n.first l))
+  | inr w ↦ flip_less b a (second_less n m b a t s (sym (nat_equal m.first n.first w.0)) (nat_greater m.second n.second w.1))
+]
+
 -- ---- first rows
 
-pub marked_above : (m key : ℕ) (r : List ℕ) (rows : List Row) → IsMarked m rows → key ≡ mark_of 16 r → Each IsByte r → key < m → IfSome (slice_get rows 0) (λ x. true ≡ is_gt (order x.raw r))
-marked_above m key r [] s e b h = tt
-marked_above m key r (x ∷ xs) s e b h = let q : m ≡ mark_of 16 x.raw = s.0 in sym (ap is_gt (flip_less r x.raw (mark_less 16 r x.raw b s.1 (omega arith))))
+pub first_above : (m key : Mark) (r : List ℕ) (rows : List Row) → IsMarked m rows → IsMarkOf key r → marks_order m key ≡ Greater → IfSome (slice_get rows 0) (λ x. true ≡ is_gt (order x.raw r))
+first_above m key r [] s k e = tt
+first_above m key r (x ∷ xs) s k e = sym (ap is_gt (marks_greater m key x.raw r s k e))
 
-pub marked_not_above : (m key : ℕ) (r : List ℕ) (rows : List Row) → IsMarked m rows → key ≡ mark_of 16 r → Each IsByte r → m < key → IfSome (slice_get rows 0) (λ x. false ≡ is_gt (order x.raw r))
-marked_not_above m key r [] s e b h = tt
-marked_not_above m key r (x ∷ xs) s e b h = let q : m ≡ mark_of 16 x.raw = s.0 in sym (ap is_gt (mark_less 16 x.raw r s.1 b (omega arith)))
+pub first_below : (m key : Mark) (r : List ℕ) (rows : List Row) → IsMarked m rows → IsMarkOf key r → marks_order m key ≡ Less → IfSome (slice_get rows 0) (λ x. false ≡ is_gt (order x.raw r))
+first_below m key r [] s k e = tt
+first_below m key r (x ∷ xs) s k e = sym (ap is_gt (marks_less m key x.raw r s k e))
 
-marked_front : (m : ℕ) (rows zs : List Row) (i : ℕ) → 0 < i → i ≤ length rows → IsMarked m rows → IsMarked m (take i rows ++ zs)
-marked_front m rows zs zero p l s = absurd (omega arith)
-marked_front m [] zs (suc i) p l s = absurd (omega arith)
-marked_front m (x ∷ xs) zs (suc i) p l s = s
-
-pub marked_take : (m : ℕ) (rows : List Row) (i : ℕ) → 0 < i → i ≤ length rows → IsMarked m rows → IsMarked m (take i rows)
+pub marked_take : (m : Mark) (rows : List Row) (i : ℕ) → 0 < i → i ≤ length rows → IsMarked m rows → IsMarked m (take i rows)
 marked_take m rows zero p l s = absurd (omega arith)
 marked_take m [] (suc i) p l s = absurd (omega arith)
 marked_take m (x ∷ xs) (suc i) p l s = s
-
-pub marked_behind : (m : ℕ) (rows : List Row) (x : Row) (p : Result ℕ ℕ) → IsPlace x.raw rows p → IsBehind p → IsMarked m rows → IsMarked m (with_row x rows)
-marked_behind m rows x (Ok i) s b k = let l : i < length rows = s.0 in subst (λ (t : List Row). IsMarked m (t ++ x ∷ above x.raw rows)) (sym (below-Splits s.1)) (marked_front m rows (x ∷ above x.raw rows) i b (omega arith) k)
-marked_behind m rows x (Err i) s b k = let l : i ≤ length rows = s.0 in subst (λ (t : List Row). IsMarked m (t ++ x ∷ above x.raw rows)) (sym (below-Splits s.1)) (marked_front m rows (x ∷ above x.raw rows) i b l k)
 
 first_in : (rows : List Row) → 0 < length rows → (x : Row) × (x ≡ get_or rows 0 x) × (slice_get rows 0 ≡ Some x)
 first_in [] h = absurd (omega arith)

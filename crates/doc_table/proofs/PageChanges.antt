@@ -15,6 +15,7 @@ use Rattle.doc_table.proofs.Order.{each_append, each_front, each_back, pairwise_
 use Rattle.doc_table.proofs.Numbered.{with_rising}
 use Rattle.doc_table.proofs.Flank.{flank_found, flank_with, flank_without}
 use Rattle.doc_table.proofs.Live.{pairwise_live_middle, live_full, length-live}
+use Rattle.doc_table.specs.declared.mark.Mark.{Mark}
 use Rattle.doc_table.specs.Marks.{IsMarked}
 use Rattle.doc_table.proofs.Marks.{marked_take}
 use Rattle.doc_table.proofs.PageLists.{flat_append, flat_split, each_live_rows, each_at}
@@ -109,7 +110,7 @@ pub pages_kept : (ps : List SharedPage) (p : ℕ) (h g : SharedPage) → IsPages
 pages_kept ps p h g s l e q k =
     let t = each_at IsSound ps p h l e s.sound in
     record {
-      sound = sized_swapped ps p (g ∷ []) s.sound (subst (λ (m : ℕ). (0 < length (page_rows g)) × (length (page_rows g) ≤ 64) × IsMarked m (page_rows g)) (sym k) (subst (λ (t : List Row). (0 < length t) × (length t ≤ 64) × IsMarked h.mark t) (sym q) t), tt);
+      sound = sized_swapped ps p (g ∷ []) s.sound (subst (λ (m : Mark). (0 < length (page_rows g)) × (length (page_rows g) ≤ 64) × IsMarked m (page_rows g)) (sym k) (subst (λ (t : List Row). (0 < length t) × (length t ≤ 64) × IsMarked h.mark t) (sym q) t), tt);
       rising = subst IsRising (flat_split page_rows ps p h l e ∙ sym (flat_swapped page_rows ps p (g ∷ []) (page_rows h) (append-nil (page_rows g) ∙ q))) s.rising;
     }
 
@@ -148,7 +149,7 @@ is_halved h g u s n a b c d e k m =
     record {
       all = whole;
       alive = (λ k. gg k ++ uu k) ∙ whole ∙ sym hh;
-      lower = (omega arith, omega arith, subst (λ (v : ℕ). IsMarked v (page_rows g)) (sym k) (subst (IsMarked h.mark) (sym d) (marked_take h.mark (page_rows h) 32 (omega arith) (omega arith) s.2)));
+      lower = (omega arith, omega arith, subst (λ (v : Mark). IsMarked v (page_rows g)) (sym k) (subst (IsMarked h.mark) (sym d) (marked_take h.mark (page_rows h) 32 (omega arith) (omega arith) s.2)));
       upper = (omega arith, omega arith, m);
     }
 

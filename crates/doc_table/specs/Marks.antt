@@ -1,6 +1,7 @@
--- The first bytes of a text as one number, which tells most texts apart.
-use Rattle.std.specs.Prelude.{◌≡◌, ℕ, zero, suc, ◌+◌, ◌*◌, ◌^◌, ◌<◌, List, [], ◌∷◌, Result, Ok, Err}
+-- The first bytes of a text as two numbers, which tell most texts apart.
+use Rattle.std.specs.Prelude.{◌≡◌, ℕ, zero, suc, ◌+◌, ◌*◌, ◌^◌, ◌<◌, List, [], ◌∷◌, drop}
 use Rattle.saved_doc.specs.declared.doc.Row.{Row}
+use Rattle.doc_table.specs.declared.mark.Mark.{Mark}
 use Rattle.doc_table.specs.RowLists.{Each}
 
 -- the first k bytes as the digits of a number, where a byte that is missing counts as 0
@@ -12,12 +13,20 @@ mark_of (suc k) (b ∷ r) = b * 256 ^ k + mark_of k r
 abbrev pub IsByte : ℕ → Type 0
 IsByte b = b < 256
 
--- m is the mark of the first row's raw id
-abbrev pub IsMarked : ℕ → List Row → Type 0
-IsMarked m [] = Unit {0}
-IsMarked m (x ∷ xs) = (m ≡ mark_of 16 x.raw) × Each IsByte x.raw
+-- m is the mark of r, a text of bytes
+pub record IsMarkOf (m : Mark) (r : List ℕ) : Type 0 where
+  pub first : m.first ≡ mark_of 16 r
+  pub second : m.second ≡ mark_of 16 (drop 16 r)
+  pub bytes : Each IsByte r
 
--- a place behind another row's
-abbrev pub IsBehind : Result ℕ ℕ → Type 0
-IsBehind (Ok i) = 0 < i
-IsBehind (Err i) = 0 < i
+-- m is the mark of the first row's raw id
+abbrev pub IsMarked : Mark → List Row → Type 0
+IsMarked m [] = Unit {0}
+IsMarked m (x ∷ xs) = IsMarkOf m x.raw
+
+-- the marks are those of the rows' raw ids, one each in order
+abbrev pub AreMarks : List Mark → List Row → Type 0
+AreMarks [] [] = Unit {0}
+AreMarks [] (x ∷ xs) = ⊥
+AreMarks (m ∷ ms) [] = ⊥
+AreMarks (m ∷ ms) (x ∷ xs) = IsMarkOf m x.raw × AreMarks ms xs

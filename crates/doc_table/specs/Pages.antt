@@ -15,7 +15,7 @@ live_from bits i (x ∷ xs) = cond (bit_at bits i == 1) (x ∷ live_from bits (i
 
 -- all rows of a page, and those that are live
 abbrev pub page_rows : SharedPage → List Row
-page_rows h = h.page.value.items
+page_rows h = h.page.value
 
 abbrev pub live_rows : SharedPage → List Row
 live_rows h = live_from h.live 0 (page_rows h)

@@ -4,6 +4,8 @@ ghost use Rattle.std.specs.Int.{bit_at};
 ghost use Rattle.doc_table.specs.RowLists.{IsRising, rows_after, is_after, counted_from, Each};
 ghost use Rattle.doc_table.specs.Pages.{page_rows, live_rows, all_rows, rows_of, IsPages, IsSound};
 
+use crate::mark::Mark;
+use crate::marked::MarkedRows;
 use crate::page::{SharedPage, is_live};
 use crate::pages::page_of;
 use crate::place::{is_after, push_counted, push_if};
@@ -49,7 +51,7 @@ pub fn start_of(pages: &[SharedPage], after: Option<&str>) -> usize
             if pages.is_empty() {
                 return 0;
             }
-            page_of(pages, raw)
+            page_of(pages, raw, Mark::of(raw))
         }
     }
 }
@@ -152,6 +154,7 @@ fn push_rows(alloc: Global, out: &mut Vec<SharedPage>, rows: Vec<Row>) -> Result
     if rows.is_empty() {
         return Ok(());
     }
+    let rows = MarkedRows::of(alloc, rows)?;
     out.push(SharedPage::of(alloc, rows)?)?;
     Ok(())
 }

@@ -5,6 +5,7 @@ mod copies;
 mod counting;
 mod list_table;
 mod mark;
+mod marked;
 mod page;
 mod pages;
 mod place;

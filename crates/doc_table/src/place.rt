@@ -30,24 +30,6 @@ pub fn scan(rows: &[Row], raw: &str) -> Result<usize, usize>
     Err(rows.len())
 }
 
-/// The place of a raw id, by halves.
-pub fn place(rows: &[Row], raw: &str) -> Result<usize, usize>
-    requires { IsRising rows.now }
-    ensures { IsPlace raw.now rows.now result }
-{
-    let mut low = 0;
-    let mut high = rows.len();
-    while low < high {
-        let mid = low + (high - low) / 2;
-        match compare(&rows[mid], raw) {
-            Ordering::Less => low = mid + 1,
-            Ordering::Equal => return Ok(mid),
-            Ordering::Greater => high = mid,
-        }
-    }
-    Err(low)
-}
-
 /// Puts a row at its place.
 pub fn put_at(rows: &mut Vec<Row>, place: Result<usize, usize>, row: Row) -> Result<(), AllocError>
     requires { IsPlace row.raw rows.old.items place }

@@ -1,6 +1,3 @@
-use Rattle.std.proofs.Common.{List, subst}
-use Rattle.saved_doc.specs.declared.doc.Row.{Row}
-use Rattle.doc_table.specs.Place.{IsPlace}
 use Rattle.doc_table.specs.Pages.{page_rows}
 use Rattle.doc_table.proofs.Live.{clear_here, clear_gap}
 use Rattle.doc_table.proofs.page.without_row.Goals as goal
@@ -8,9 +5,7 @@ use Rattle.doc_table.proofs.page.without_row.Goals as goal
 pub returns-in-Ok : goal.returns-in-Ok
 returns-in-Ok c =
     clear_here c.args.held.now.live c.cleared.result c.args.raw.now (page_rows c.args.held.now) c.place.result c.in-Ok.at c.in-Ok.is
-    (subst (λ (t : List Row). IsPlace c.args.raw.now t c.place.result) c.rows.ensures c.place.ensures) c.requires.sound.1 c.cleared.ensures.same c.cleared.ensures.others
+    c.place.ensures c.requires.sound.1 c.cleared.ensures.same c.cleared.ensures.others
 
 pub returns-in-Err : goal.returns-in-Err
-returns-in-Err c =
-    clear_gap c.args.held.now.live c.args.raw.now (page_rows c.args.held.now) c.place.result c.in-Err.field-0 c.in-Err.is
-    (subst (λ (t : List Row). IsPlace c.args.raw.now t c.place.result) c.rows.ensures c.place.ensures)
+returns-in-Err c = clear_gap c.args.held.now.live c.args.raw.now (page_rows c.args.held.now) c.place.result c.in-Err.field-0 c.in-Err.is c.place.ensures

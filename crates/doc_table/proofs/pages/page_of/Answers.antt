@@ -1,6 +1,5 @@
-use Rattle.std.proofs.Common.{◌≡◌, ℕ, ◌+◌, ◌-◌, ◌/◌, Bool, true, false, List, get_or, take, sym, ◌∙◌, ap, subst, arith}
+use Rattle.std.proofs.Common.{◌≡◌, ℕ, ◌+◌, ◌-◌, ◌/◌, false, take, sym, ◌∙◌, ap, subst, arith}
 use Rattle.std.specs.Ordering.{is_gt}
-use Rattle.saved_doc.specs.declared.doc.Row.{Row}
 use Rattle.doc_table.specs.RowLists.{order, Each}
 use Rattle.doc_table.specs.Place.{IsBelow}
 use Rattle.doc_table.specs.Pages.{all_rows, page_rows, IsSound}

@@ -1,6 +1,12 @@
 use Rattle.std.proofs.Common.{[], ◌∷◌, ◌++◌, cond, sym, ◌∙◌}
+use Rattle.doc_table.specs.Marks.{IsMarkOf}
 use Rattle.doc_table.proofs.Live.{live_more}
+use Rattle.doc_table.proofs.MarkLists.{read_known}
 use Rattle.doc_table.proofs.page.SharedPage.copies.Goals as goal
+
+pub push_live-requires : goal.push_live-requires
+push_live-requires c =
+    read_known (λ x. IsMarkOf c.mark_at-mark.result x.raw) c.deref.result.now c.rows-rows.result.now c.loop-i.i c.index-rows-i.result (c.deref.ensures ∙ sym c.rows-rows.ensures) c.loop-i-test.true c.index-rows-i.is c.mark_at-mark.ensures
 
 pub loop-i-preserved : goal.loop-i-preserved
 loop-i-preserved c = (
