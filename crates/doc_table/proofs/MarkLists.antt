@@ -6,7 +6,7 @@ use Rattle.std.proofs.lemmas.List.{take_more}
 use Rattle.std.proofs.lemmas.Option.{slice_get_read}
 use Rattle.saved_doc.specs.declared.doc.Row.{Row}
 use Rattle.doc_table.specs.declared.mark.Mark.{Mark}
-use Rattle.doc_table.specs.Marks.{IsMarkOf, IsMarked, AreMarks}
+use Rattle.doc_table.specs.Marks.{IsMarkOf, AreMarks}
 
 pub marks_length : (ms : List Mark) (xs : List Row) → AreMarks ms xs → length ms ≡ length xs
 marks_length [] [] s = refl
@@ -27,16 +27,6 @@ marks_read [] (y ∷ ys) i d s l = absurd s
 marks_read (m ∷ ms) [] i d s l = absurd s
 marks_read (m ∷ ms) (y ∷ ys) zero d s l = s.0
 marks_read (m ∷ ms) (y ∷ ys) (suc i) d s l = marks_read ms ys i d s.1 (omega arith)
-
-pub marks_first : (ms : List Mark) (xs : List Row) (d : Mark) → AreMarks ms xs → IsMarked (get_or ms 0 d) xs
-marks_first ms [] d s = tt
-marks_first [] (x ∷ xs) d s = absurd s
-marks_first (m ∷ ms) (x ∷ xs) d s = s.0
-
-pub marks_none : (m : Mark) (ms : List Mark) (xs : List Row) → AreMarks ms xs → length ms ≡ 0 → IsMarked m xs
-marks_none m ms [] s e = tt
-marks_none m [] (x ∷ xs) s e = absurd s
-marks_none m (n ∷ ms) (x ∷ xs) s e = absurd (omega arith)
 
 pub marks_append : (ms : List Mark) (xs : List Row) (ns : List Mark) (ys : List Row) → AreMarks ms xs → AreMarks ns ys → AreMarks (ms ++ ns) (xs ++ ys)
 marks_append [] [] ns ys s t = t
