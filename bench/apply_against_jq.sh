@@ -1,11 +1,13 @@
 #!/bin/sh
-# Time and peak memory of `suwhanoki apply` and of `jq -c .` on the same input: a registry and N MB
-# of get lines of an unknown id, and half of it. Usage: bench/apply_against_jq.sh PROGRAM [N]
+# Processor time and peak memory of `suwhanoki apply` and of `jq -c .` on the same input: a registry
+# and N MB of get lines of an unknown id, and half of it. Times are the least of RUNS runs (default 5),
+# since other work on the machine only adds. Usage: bench/apply_against_jq.sh PROGRAM [N]
 # PROGRAM is crates/suwhanoki/out/suwhanoki after `rt run` there; N is 20 if left out, 26 at most.
 # Needs GNU time and jq: apt-get install -y time jq
 set -eu
 program=$1
 megabytes=${2:-20}
+runs=${RUNS:-5}
 folder=$(mktemp -d)
 trap 'rm -rf "$folder"' EXIT
 
@@ -19,12 +21,16 @@ input() {
     }'
 }
 
-# Seconds of the processor and peak kilobytes of a command over the file $1.
+# Seconds of the processor and peak kilobytes of a command over the file $1, of the fastest run.
 measure() {
     file=$1
     shift
-    /usr/bin/time -f '%U %S %M' -o "$folder/measured" "$@" <"$file" >/dev/null
-    awk '{ print $1 + $2, $3 }' "$folder/measured"
+    run=0
+    while [ "$run" -lt "$runs" ]; do
+        /usr/bin/time -f '%U %S %M' -o "$folder/measured" "$@" <"$file" >/dev/null
+        awk '{ print $1 + $2, $3 }' "$folder/measured"
+        run=$((run + 1))
+    done | sort -n | head -n 1
 }
 
 whole=$((megabytes * 1000000))
