@@ -1,5 +1,5 @@
 //! Worked examples of object calls on a store that others work on too, as tests: the refusals that
-//! only another actor's work brings, and a full journal.
+//! only another actor's work brings.
 //!
 //! They stand here since a crate with tests is proved twice.
 #![tactic(auto)]

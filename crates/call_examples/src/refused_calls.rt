@@ -1,12 +1,11 @@
-//! Calls on a store where no instance has made the index yet, or one has blocked it, and on one
-//! whose journal is full.
+//! Calls on a store where no instance has made the index yet, or one has blocked it.
 use crate::stores::{INDEX, call, line, registry, store};
 use own_link::{OwnLink, call_on};
 use plain_data::{List, Text};
 use std::alloc::Global;
 use std::test::Fail;
 use store_core::StoreCore;
-use store_words::{How, LinkError, Request};
+use store_words::{How, Request};
 use type_registry::Registry;
 
 /// Calls of client 1, each with the line of its answer, on a store without indices.
@@ -23,11 +22,6 @@ const BLOCKED: &str = r#"
     {"do":"update","type":"map","id":"k","attributes":{}} => {"actor":101,"answer":{"error":{"code":1,"name":"NotFound"}},"line":"answer","tag":2}
     {"do":"get","type":"map","id":"m"} => {"actor":101,"answer":{"ok":{"attributes":{"n":1},"id":"m","namespaces":["default"],"references":[],"type":"map","version":"WzAsMV0="}},"line":"answer","tag":3}
     {"do":"bulkCreate","objects":[{"type":"map","id":"k","attributes":{}},{"type":"map","id":"k","attributes":{}},{"type":"map","id":"j","attributes":{}}]} => {"actor":101,"answer":{"ok":[{"error":{"code":7,"name":"WriteBlocked"}},{"error":{"code":2,"name":"Conflict"}},{"error":{"code":7,"name":"WriteBlocked"}}]},"line":"answer","tag":4}
-"#;
-
-/// The same on a store whose journal has room for one request.
-const ONE_REQUEST: &str = r#"
-    {"do":"get","type":"map","id":"m"} => {"actor":101,"answer":{"ok":{"attributes":{"n":1},"id":"m","namespaces":["default"],"references":[],"type":"map","version":"WzAsMV0="}},"line":"answer","tag":1}
 "#;
 
 const MAP: &str = r#"{"type":"map","map":{"n":1},"references":[]}"#;
@@ -64,54 +58,36 @@ fn first_other(
     Ok(String::new(alloc))
 }
 
-/// A link of client 1 over a store with the map `m` whose index instance 1 has blocked.
-fn blocked(alloc: Global) -> Result<OwnLink, Fail> {
-    let mut core = store(alloc, "map:m", MAP, 1_000)?;
-    let index = Text::from_str(alloc, INDEX)?;
-    core.send(1, 1, How::Heard, &Request::Block { index })?;
-    Ok(OwnLink::new(core, 101))
-}
-
-/// Whether a create is not made since the journal holds one entry, and nothing changes.
-fn is_full_at_one(alloc: Global, reg: &Registry, link: &mut OwnLink) -> Result<bool, Fail> {
-    let create = call(
-        alloc,
-        r#"{"do":"create","type":"map","id":"k","attributes":{}}"#,
-    )?;
-    let refused = call_on(alloc, reg, &create, 2, link).err();
-    let core = link.core();
-    let next = core.table(INDEX).map(|table| table.next());
-    Ok(refused == Some(LinkError::JournalFull(1)) && core.journal().len() == 1 && next == Some(1))
-}
-
-#[test]
-fn a_call_before_the_index_is_made_is_not_ready(rt: HostRuntime) -> Result<(), Fail> {
-    let alloc = rt.alloc();
-    let reg = registry(alloc)?;
-    let core = StoreCore::open(List::new(alloc), List::new(alloc), 1_000)?;
+/// The same of the calls of client 1 on a store.
+fn first_other_on(
+    alloc: Global,
+    reg: &Registry,
+    core: StoreCore,
+    calls: &str,
+) -> Result<String, Fail> {
     let mut link = OwnLink::new(core, 101);
-    let other = first_other(alloc, &reg, &mut link, NOT_READY)?;
-    assert_eq!(rt; other.as_str(), "");
-    Ok(())
+    first_other(alloc, reg, &mut link, calls)
+}
+
+/// A store with the map `m` whose index instance 1 has blocked.
+fn blocked(alloc: Global) -> Result<StoreCore, Fail> {
+    let index = Text::from_str(alloc, INDEX)?;
+    let block = Request::Block { index };
+    let mut core = store(alloc, "map:m", MAP)?;
+    match core.send(1, 1, How::Heard, &block) {
+        Ok(_) => Ok(core),
+        Err(error) => Err(error.into()),
+    }
 }
 
 #[test]
-fn a_write_to_a_blocked_index_is_refused(rt: HostRuntime) -> Result<(), Fail> {
+fn a_call_beside_an_instance_is_refused(rt: HostRuntime) -> Result<(), Fail> {
     let alloc = rt.alloc();
     let reg = registry(alloc)?;
-    let mut link = blocked(alloc)?;
-    let other = first_other(alloc, &reg, &mut link, BLOCKED)?;
+    let none = StoreCore::open(List::new(alloc), List::new(alloc), 1_000)?;
+    let other = first_other_on(alloc, &reg, none, NOT_READY)?;
     assert_eq!(rt; other.as_str(), "");
-    Ok(())
-}
-
-#[test]
-fn a_call_that_meets_a_full_journal_is_not_made(rt: HostRuntime) -> Result<(), Fail> {
-    let alloc = rt.alloc();
-    let reg = registry(alloc)?;
-    let mut link = OwnLink::new(store(alloc, "map:m", MAP, 1)?, 101);
-    let other = first_other(alloc, &reg, &mut link, ONE_REQUEST)?;
+    let other = first_other_on(alloc, &reg, blocked(alloc)?, BLOCKED)?;
     assert_eq!(rt; other.as_str(), "");
-    assert!(rt; is_full_at_one(alloc, &reg, &mut link)?);
     Ok(())
 }

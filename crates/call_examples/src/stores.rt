@@ -1,5 +1,5 @@
 //! The store of the examples, their registry, their calls and the lines of their answers.
-ghost use Rattle.std.specs.Prelude.{◌≡◌, ◌≤◌, ◌<◌, ◌^◌, ◌∷◌, [], true, IfOk, codes};
+ghost use Rattle.std.specs.Prelude.{◌≡◌, ◌∷◌, [], true, IfOk, codes};
 ghost use Rattle.so_js.specs.Tree.{is_sound};
 ghost use Rattle.call_words.specs.Limits.{HasFewObjects};
 
@@ -92,15 +92,12 @@ fn aliases(alloc: Global) -> Result<List<Pair>, AllocError>
 }
 
 /// A store of one document, numbered 0, in the version's index, which both aliases name.
-pub fn store(alloc: Global, raw: &str, doc: &str, limit: u64) -> Result<StoreCore, Fail>
-    requires least { 1 ≤ limit }
-    requires most { limit ≤ 4000000 }
-{
+pub fn store(alloc: Global, raw: &str, doc: &str) -> Result<StoreCore, Fail> {
     let table = table(alloc, raw, doc)?;
     if table.next() >= 1 << 62 {
         return Err("too many rows".into());
     }
     let indices = index(alloc, table)?;
     let aliases = aliases(alloc)?;
-    Ok(StoreCore::open(indices, aliases, limit)?)
+    Ok(StoreCore::open(indices, aliases, 1_000)?)
 }

@@ -157,7 +157,7 @@ fn crossed(alloc: Global, reg: &Registry, core: &mut StoreCore) -> Result<String
 fn a_write_between_makes_a_call_busy(rt: HostRuntime) -> Result<(), Fail> {
     let alloc = rt.alloc();
     let reg = registry(alloc)?;
-    let mut core = store(alloc, "tag:t1", TAG, 1_000)?;
+    let mut core = store(alloc, "tag:t1", TAG)?;
     let mut lines = crossed(alloc, &reg, &mut core)?;
     let again = made(
         alloc,
