@@ -3,123 +3,128 @@
 
 Usage: bench/calls_by_rows.py PROGRAM [RUNS]
 PROGRAM is crates/suwhanoki/out/suwhanoki after `rt run` there. Each figure is processor time (user
-and system), the least of RUNS runs (default 5), since other work on the machine only adds. A kind of
-call is measured by an input of creates and calls of that kind, less the time of the creates alone, so
-it holds all that a call costs from its line to its answer's line.
+and system). The inputs are run one after another, and all of them RUNS times (default 5); the least of
+its times counts for each, since other work on the machine only adds. A kind of call is measured by an
+input of creates and calls of that kind, less the time of the creates alone, so it holds all that a
+call costs from its line to its answer's line.
 """
 import json
 import os
 import subprocess
 import sys
 import tempfile
+from itertools import chain, repeat
 
-import sqlite_calls
-from sqlite_calls import create, delete, get, id_at, update
+from sqlite_calls import FIND_KINDS, MANY, WHOLE, create, delete, get, over, update
 
-FEW, MANY = 1_000, 100_000
-# So many of each of four calls fit into the longest input.
-WHOLE = 90_000
-FINDS = 20
+FEW = 1_000
+FINDS = 60
 REGISTRY = {"line": "registry", "version": "7.12.0", "types": [{"name": "t", "kind": "single"}]}
 
 
-def lines(calls):
-    """The text of an input of these calls."""
-    made = [REGISTRY] + [{"line": "call", "call": call} for call in calls]
-    return "".join(json.dumps(line, separators=(",", ":")) + "\n" for line in made)
+def line(said):
+    return json.dumps(said, separators=(",", ":")) + "\n"
 
 
-def over(call, rows, count):
-    """So many calls, over the objects of so many creates in turn."""
-    return [call(id_at(place % rows)) for place in range(count)]
+class Input:
+    """An input, how often it is run at a time, and what its runs took."""
+
+    def __init__(self, folder, name, calls, again=1):
+        self.path, self.again = os.path.join(folder, name), again
+        self.times, self.peak = [], 0
+        # Line by line, since a run's peak memory begins with what this program itself has.
+        with open(self.path, "w", encoding="utf-8") as out:
+            out.write(line(REGISTRY))
+            for call in calls:
+                out.write(line({"line": "call", "call": call}))
+
+    def run(self, program):
+        seconds = 0.0
+        for _ in range(self.again):
+            took, self.peak = once(program, self.path)
+            seconds += took
+        self.times.append(seconds / self.again)
+
+    def least(self):
+        return min(self.times)
 
 
-class Bench:
-    def __init__(self, program, runs, folder):
-        self.program, self.runs, self.folder = program, runs, folder
+def once(program, path):
+    """Seconds of processor time and peak kilobytes of one run."""
+    with open(path, "rb") as source, open(os.devnull, "wb") as sink:
+        child = subprocess.Popen([program, "apply"], stdin=source, stdout=sink)
+        _, status, used = os.wait4(child.pid, 0)
+    child.returncode = os.waitstatus_to_exitcode(status)
+    if child.returncode != 0:
+        sys.exit(f"{program} apply ended with {child.returncode}")
+    return used.ru_utime + used.ru_stime, used.ru_maxrss
 
-    def once(self, path):
-        """Seconds of processor time and peak kilobytes of one run."""
-        with open(path, "rb") as source, open(os.devnull, "wb") as sink:
-            child = subprocess.Popen([self.program, "apply"], stdin=source, stdout=sink)
-            _, status, used = os.wait4(child.pid, 0)
-        child.returncode = os.waitstatus_to_exitcode(status)
-        if child.returncode != 0:
-            sys.exit(f"{self.program} apply ended with {child.returncode}")
-        return used.ru_utime + used.ru_stime, used.ru_maxrss
 
-    def took(self, calls, again=1):
-        """Seconds for an input of these calls, the least of all runs, and its peak kilobytes."""
-        path = os.path.join(self.folder, "input")
-        with open(path, "w", encoding="utf-8") as out:
-            out.write(lines(calls))
-        best, peak = None, 0
-        for _ in range(self.runs):
-            runs = [self.once(path) for _ in range(again)]
-            seconds = sum(run[0] for run in runs) / again
-            best = seconds if best is None else min(best, seconds)
-            peak = max(run[1] for run in runs)
-        return best, peak
+def inputs(folder):
+    """The inputs by their names."""
+    made = {
+        "none": Input(folder, "none", [], 100),
+        "few": Input(folder, "few", over(create, FEW, FEW), 100),
+        "many": Input(folder, "many", over(create, MANY, MANY)),
+        "whole": Input(folder, "whole", (call for kind in (create, get, update, delete) for call in over(kind, WHOLE, WHOLE))),
+    }
+    for name, kind in (("get", get), ("update", update), ("delete", delete)):
+        # An object is deleted once.
+        count, again = (FEW, 100) if kind is delete else (MANY, 1)
+        few = chain(over(create, FEW, FEW), over(kind, FEW, count))
+        made[f"few {name}"] = Input(folder, f"few_{name}", few, again)
+        many = chain(over(create, MANY, MANY), over(kind, MANY, MANY))
+        made[f"many {name}"] = Input(folder, f"many_{name}", many)
+    for place, (what, more) in enumerate(FIND_KINDS.items()):
+        finds = repeat({"do": "find", "types": ["t"], **more}, FINDS)
+        made[what] = Input(folder, f"find_{place}", chain(over(create, MANY, MANY), finds))
+    return made
 
-    def each(self, rows, call, count, again=1):
-        """Microseconds of a call over so many objects."""
-        creates = over(create, rows, rows)
-        before, _ = self.took(creates, again)
-        after, _ = self.took(creates + over(call, rows, count), again)
-        return (after - before) / count * 1e6
 
-    def creates(self, rows, again=1):
-        """Microseconds of a create, and bytes of peak memory for each."""
-        before, empty = self.took([], again)
-        after, peak = self.took(over(create, rows, rows), again)
-        return (after - before) / rows * 1e6, (peak - empty) * 1024 / rows
+def each(made, name, before, count):
+    """Microseconds of a call of an input beyond another."""
+    return (made[name].least() - made[before].least()) / count * 1e6
 
 
 def compare(what, few, many):
     print(f"{what}: {few:.2f} us over {FEW:,} objects and {many:.2f} us over {MANY:,}, ratio {many / few:.2f}")
 
 
-def calls(bench):
-    few, _ = bench.creates(FEW, 100)
-    many, memory = bench.creates(MANY)
-    compare("a create", few, many)
-    compare("a get", bench.each(FEW, get, MANY), bench.each(MANY, get, MANY))
-    compare("an update", bench.each(FEW, update, MANY), bench.each(MANY, update, MANY))
-    compare("a delete", bench.each(FEW, delete, FEW, 100), bench.each(MANY, delete, MANY))
-    print(f"peak memory: {memory:.0f} bytes for each of {MANY:,} objects that were created")
-
-
-def whole(bench):
-    work = [call for kind in (create, get, update, delete) for call in over(kind, WHOLE, WHOLE)]
-    ours, peak = bench.took(work)
-    alone, with_lines = sqlite_calls.whole(work, bench.runs)
+def tell(made, theirs):
+    compare("a create", each(made, "few", "none", FEW), each(made, "many", "none", MANY))
+    compare("a get", each(made, "few get", "few", MANY), each(made, "many get", "many", MANY))
+    compare("an update", each(made, "few update", "few", MANY), each(made, "many update", "many", MANY))
+    compare("a delete", each(made, "few delete", "few", FEW), each(made, "many delete", "many", MANY))
+    print(f"peak memory: {made['many'].peak * 1024 // MANY} bytes for each of {MANY:,} objects that were created")
+    ours, alone, with_lines = made["whole"].least(), theirs["alone"], theirs["with lines"]
     print(
-        f"{WHOLE:,} creates, gets, updates and deletes: {ours:.2f} s, {peak // 1024} MB; "
+        f"{WHOLE:,} creates, gets, updates and deletes: {ours:.2f} s, {made['whole'].peak // 1024} MB; "
         f"statements of SQLite alone {alone:.2f} s, ratio {ours / alone:.2f}; "
         f"with their lines read and written {with_lines:.2f} s, ratio {ours / with_lines:.2f}"
     )
+    for what in FIND_KINDS:
+        row, other = each(made, what, "many", FINDS) * 1000 / MANY, theirs[what] * 1e9 / MANY
+        print(f"{what} of {MANY:,} objects: {row:.0f} ns a row, SQLite {other:.0f} ns, ratio {row / other:.2f}")
 
 
-def finds(bench):
-    kinds = {
-        "a page": {},
-        "a page of those that a filter keeps": {"filter": "t.attributes.n >= 1"},
-        "a page by time, the latest first": {"sort": "updated_at", "order": "desc"},
-    }
-    for what, more in kinds.items():
-        ours = bench.each(MANY, lambda _: {"do": "find", "types": ["t"], **more}, FINDS) * 1000 / MANY
-        theirs = sqlite_calls.find(MANY, more, FINDS, bench.runs) * 1e9 / MANY
-        print(f"{what} of {MANY:,} objects: {ours:.0f} ns a row, SQLite {theirs:.0f} ns, ratio {ours / theirs:.2f}")
+def sqlite():
+    """Seconds of SQLite's works, in a program of its own."""
+    script = os.path.join(os.path.dirname(os.path.abspath(__file__)), "sqlite_calls.py")
+    return json.loads(subprocess.run([sys.executable, script], check=True, stdout=subprocess.PIPE).stdout)
 
 
 def main():
     program = sys.argv[1]
     runs = int(sys.argv[2]) if len(sys.argv) > 2 else 5
     with tempfile.TemporaryDirectory() as folder:
-        bench = Bench(program, runs, folder)
-        calls(bench)
-        whole(bench)
-        finds(bench)
+        made = inputs(folder)
+        theirs = {}
+        for _ in range(runs):
+            for one in made.values():
+                one.run(program)
+            for what, seconds in sqlite().items():
+                theirs[what] = min(seconds, theirs.get(what, seconds))
+        tell(made, theirs)
 
 
 main()

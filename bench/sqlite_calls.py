@@ -1,8 +1,19 @@
 """The object calls of `calls_by_rows.py`, and the same work by SQLite in memory with prepared
-statements and the attributes as a column of JSON text. Times are processor time."""
+statements and the attributes as a column of JSON text. Run by itself it prints the seconds of
+processor time of each work, of a find for one, as an object of JSON."""
 import json
 import sqlite3
 import time
+
+
+MANY = 100_000
+# So many of each of four calls fit into the longest input.
+WHOLE = 90_000
+FIND_KINDS = {
+    "a page": {},
+    "a page of those that a filter keeps": {"filter": "t.attributes.n >= 1"},
+    "a page by time, the latest first": {"sort": "updated_at", "order": "desc"},
+}
 
 
 def id_at(place):
@@ -24,6 +35,11 @@ def update(name):
 
 def delete(name):
     return {"do": "delete", "type": "t", "id": name}
+
+
+def over(call, rows, count):
+    """So many calls, over the objects of so many creates in turn."""
+    return (call(id_at(place % rows)) for place in range(count))
 
 
 TABLE = """create table objects (raw text primary key, seq integer, type text, attributes text,
@@ -78,13 +94,8 @@ def with_lines(work):
     return time.process_time() - start
 
 
-def whole(work, runs):
-    """The least seconds of the statements alone, and of these with their lines."""
-    return min(alone(work) for _ in range(runs)), min(with_lines(work) for _ in range(runs))
-
-
-def find(rows, more, finds, runs):
-    """The least seconds of a find of a page of 20 with the count of all that fit."""
+def find(rows, more, finds):
+    """Seconds of a find of a page of 20 with the count of all that fit, of so many finds."""
     base = opened()
     base.execute("begin")
     base.executemany(INSERT, ((f"t:{id_at(n)}", n, '{"n":1}') for n in range(rows)))
@@ -96,11 +107,20 @@ def find(rows, more, finds, runs):
     page = f"select * from objects where {fits} order by {order} limit 20"
     count = f"select count(*) from objects where {fits}"
 
-    def once():
-        start = time.process_time()
-        for _ in range(finds):
-            if len(base.execute(page).fetchall()) != 20 or base.execute(count).fetchone() != (rows,):
-                raise SystemExit("SQLite: not the page that was asked for")
-        return (time.process_time() - start) / finds
+    start = time.process_time()
+    for _ in range(finds):
+        if len(base.execute(page).fetchall()) != 20 or base.execute(count).fetchone() != (rows,):
+            raise SystemExit("SQLite: not the page that was asked for")
+    return (time.process_time() - start) / finds
 
-    return min(once() for _ in range(runs))
+
+def main():
+    work = [call for kind in (create, get, update, delete) for call in over(kind, WHOLE, WHOLE)]
+    took = {"alone": alone(work), "with lines": with_lines(work)}
+    for what, more in FIND_KINDS.items():
+        took[what] = find(MANY, more, 20)
+    print(json.dumps(took))
+
+
+if __name__ == "__main__":
+    main()
