@@ -9,6 +9,7 @@ pub mod Marks
 pub mod MarkLists
 pub mod PageLists
 pub mod PageChanges
+pub mod Spots
 pub mod Readers
 pub mod Counts
 pub mod Cursor

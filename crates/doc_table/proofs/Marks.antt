@@ -1,8 +1,10 @@
 -- The marks of texts and of first rows.
-use Rattle.std.proofs.Common.{◌≡◌, ℕ, zero, suc, ◌+◌, ◌*◌, ◌^◌, ◌<◌, ◌≤◌, ◌⊎◌, inl, inr, List, [], ◌∷◌, length, take, drop, get_or, Option, Some, refl, sym, ◌∙◌, ap, subst, arith, true, false}
+use Rattle.std.proofs.Common.{◌≡◌, ℕ, zero, suc, ◌+◌, ◌*◌, ◌^◌, ◌<◌, ◌≤◌, ◌⊎◌, inl, inr, List, [], ◌∷◌, ◌++◌, length, take, drop, get_or, Option, Some, refl, sym, ◌∙◌, ap, subst, arith, true, false}
 use Rattle.std.specs.Prelude.{IfSome, slice_get}
 use Rattle.std.proofs.Math.Nat.{mul-le-mul_right, pow-suc, pow-le-pow_right, one-le-pow}
 use Rattle.std.proofs.lemmas.Grind.{pow_more}
+use Rattle.std.proofs.lemmas.List.{drop_all}
+use Rattle.std.proofs.lemmas.Nat.{pow-add}
 use Rattle.std.proofs.lemmas.Bool.{cases_order}
 use Rattle.std.specs.Cmp.{nat_cmp_is}
 use Rattle.std.specs.Ordering.{nat_cmp, is_gt, ordering_then}
@@ -11,7 +13,7 @@ use Rattle.std.specs.declared.cmp.Ordering.TheVariants.{Less, Equal, Greater}
 use Rattle.saved_doc.specs.declared.doc.Row.{Row}
 use Rattle.doc_table.specs.declared.mark.Mark.{Mark}
 use Rattle.doc_table.specs.RowLists.{Each, order}
-use Rattle.doc_table.specs.Marks.{mark_of, IsByte, IsMarkOf, IsMarked}
+use Rattle.doc_table.specs.Marks.{mark_of, IsByte, IsMarkOf, IsMarked, IsWordOf}
 use Rattle.doc_table.proofs.Places.{flip_less}
 
 mark_nil : (k : ℕ) → mark_of k [] ≡ 0
@@ -54,8 +56,50 @@ mark_step k r i b m e =
 pub read_more : (i m b : ℕ) → m < 256 ^ i → b < 256 → m * 256 + b < 256 ^ (i + 1)
 read_more i m b h l = let e = pow_more 256 i in omega arith
 
-pub read_fits : (i m b : ℕ) → m < 256 ^ i → i < 16 → b < 256 → m * 256 + b < 256 ^ 16
-read_fits i m b h k l = let e = read_more i m b h l in let a : 0 < 256 = omega arith in let c : i + 1 ≤ 16 = omega arith in let p : 256 ^ (i + 1) ≤ 256 ^ 16 = pow-le-pow_right a c in omega arith
+pub read_fits : (i m b : ℕ) → m < 256 ^ i → i < 8 → b < 256 → m * 256 + b < 256 ^ 8
+read_fits i m b h k l = let e = read_more i m b h l in let a : 0 < 256 = omega arith in let c : i + 1 ≤ 8 = omega arith in let p : 256 ^ (i + 1) ≤ 256 ^ 8 = pow-le-pow_right a c in omega arith
+
+-- a byte less to read
+mark_at : (k i : ℕ) (r : List ℕ) → mark_of (suc k) (drop i r) ≡ get_or r i 0 * 256 ^ k + mark_of k (drop (suc i) r)
+mark_at k i r =
+    let s : mark_of (suc k) (drop i r) ≡ get_or (drop i r) 0 0 * 256 ^ k + mark_of k (drop 1 (drop i r)) = mark_more k (drop i r) in
+    let f : get_or (drop i r) 0 0 * 256 ^ k ≡ get_or r i 0 * 256 ^ k = ap (λ (n : ℕ). n * 256 ^ k) (get_at i r) in
+    let d : mark_of k (drop 1 (drop i r)) ≡ mark_of k (drop (suc i) r) = ap (mark_of k) (drop_one i r) in
+    omega arith
+
+-- eight bytes as the digits of a number
+pub mark_eight : (r : List ℕ) (n : ℕ)
+    → n ≡ get_or r 0 0 * 256 ^ 7 + get_or r 1 0 * 256 ^ 6 + get_or r 2 0 * 256 ^ 5 + get_or r 3 0 * 256 ^ 4 + get_or r 4 0 * 256 ^ 3 + get_or r 5 0 * 256 ^ 2 + get_or r 6 0 * 256 + get_or r 7 0
+    → n ≡ mark_of 8 r
+mark_eight r n e =
+    let a = mark_at 7 0 r in
+    let b = mark_at 6 1 r in
+    let c = mark_at 5 2 r in
+    let d = mark_at 4 3 r in
+    let f = mark_at 3 4 r in
+    let g = mark_at 2 5 r in
+    let h = mark_at 1 6 r in
+    let i = mark_at 0 7 r in
+    let z = mark_zero (drop 8 r) in
+    omega arith
+
+-- what is read in two parts
+pub mark_joined : (j k n : ℕ) (r : List ℕ) → n ≡ j + k → mark_of n r ≡ mark_of j r * 256 ^ k + mark_of k (drop j r)
+unfolding mark_of
+mark_joined zero k n r e =
+    let f : n ≡ k = omega arith in
+    let q : mark_of n r ≡ mark_of k r = ap (λ (m : ℕ). mark_of m r) f in
+    omega arith
+mark_joined (suc j) k zero r e = absurd (omega arith)
+mark_joined (suc j) k (suc n) [] e = let z = mark_nil k in omega arith
+mark_joined (suc j) k (suc n) (b ∷ r) e =
+    let q : n ≡ j + k = omega arith in
+    let h = mark_joined j k n r q in
+    let p : b * 256 ^ n ≡ b * (256 ^ j * 256 ^ k) = ap (λ (m : ℕ). b * m) (ap (λ (m : ℕ). 256 ^ m) q ∙ pow-add 256 j k) in
+    omega arith
+
+pub mark_past : (k i : ℕ) (r : List ℕ) → length r ≤ i → mark_of k (drop i r) ≡ 0
+mark_past k i r h = ap (mark_of k) (drop_all i r h) ∙ mark_nil k
 
 pub each_byte : (r : List ℕ) → ((i : ℕ) → get_or r i 0 < 256) → Each IsByte r
 each_byte [] h = tt
@@ -109,6 +153,24 @@ mark_after (suc k) j (x ∷ a) (y ∷ b) e f q h =
         | inr l ↦ (let m : (y + 1) * 256 ^ k ≤ x * 256 ^ k = mul-le-mul_right (256 ^ k) (omega arith) in absurd (omega arith))
       ])
     ]
+
+-- ---- the order of texts that begin with the same bytes
+
+order_after : (p a b : List ℕ) → order (p ++ a) (p ++ b) ≡ order a b
+order_after [] a b = refl
+order_after (x ∷ p) a b = ap (λ (o : Ordering). ordering_then o (order (p ++ a) (p ++ b))) (sym (nat_cmp_is x x Equal refl)) ∙ order_after p a b
+
+each_drop : (k : ℕ) (r : List ℕ) → Each IsByte r → Each IsByte (drop k r)
+each_drop zero r e = e
+each_drop (suc k) [] e = tt
+each_drop (suc k) (b ∷ r) e = each_drop k r e.1
+
+pub word_less : (p : List ℕ) (m n : ℕ) (a b : List ℕ) → IsWordOf p m a → IsWordOf p n b → m < n → order a b ≡ Less
+word_less p m n a b s t h =
+    let x = s.mark in
+    let y = t.mark in
+    let q : order (drop (length p) a) (drop (length p) b) ≡ Less = mark_less 8 (drop (length p) a) (drop (length p) b) (each_drop (length p) a s.bytes) (each_drop (length p) b t.bytes) (omega arith) in
+    ap (λ (l : List ℕ). order l b) s.whole ∙ ap (λ (l : List ℕ). order (p ++ drop (length p) a) l) t.whole ∙ order_after p (drop (length p) a) (drop (length p) b) ∙ q
 
 -- ---- the order of marks
 

@@ -69,3 +69,7 @@ page_of_end r ps low high p e a b k n l h = record {
     | inr z ↦ (let d : high ≡ p + 1 = omega arith in subst (λ (n : ℕ). Each (IsAbove r) (all_rows (drop n ps))) d h)
   ];
 }
+
+-- what is read through a reference
+pub read_as : {X : Type 0} (xs : List X) (i : ℕ) (x y : X) → y ≡ x → x ≡ get_or xs i x → y ≡ get_or xs i y
+read_as xs i x y q e = q ∙ e ∙ ap (get_or xs i) (sym q)

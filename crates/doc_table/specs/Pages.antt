@@ -1,12 +1,13 @@
 -- Pages of rows, and the rows of them that are live.
-use Rattle.std.specs.Prelude.{◌≡◌, ℕ, ◌+◌, ◌<◌, ◌≤◌, ◌==◌, true, slice_get, Option, Some, None, cond, List, [], ◌∷◌, ◌++◌, length, take, drop}
+use Rattle.std.specs.Prelude.{◌≡◌, ℕ, ◌+◌, ◌<◌, ◌≤◌, ◌==◌, true, slice_get, Option, Some, None, IfSome, cond, List, [], ◌∷◌, ◌++◌, length, take, drop}
 use Rattle.std.specs.List.{flat_map}
 use Rattle.std.specs.Int.{bit_at}
 use Rattle.saved_doc.specs.declared.doc.Row.{Row}
 use Rattle.doc_table.specs.declared.page.SharedPage.{SharedPage}
 use Rattle.doc_table.specs.RowLists.{Each, IsRising, IsNumbered}
 use Rattle.doc_table.specs.Marks.{IsMarked}
-use Rattle.doc_table.specs.Place.{IsBelow, IsAbove}
+use Rattle.doc_table.specs.declared.pages.Spot.{Spot}
+use Rattle.doc_table.specs.Place.{IsBelow, IsAbove, IsPlace}
 
 -- the rows whose bits are set, where the first one's bit is bit i
 abbrev pub live_from : ℕ → ℕ → List Row → List Row
@@ -41,9 +42,13 @@ pub record IsPageOf (r : List ℕ) (pages : List SharedPage) (p : ℕ) : Type 0 
   pub lower : Each (IsBelow r) (all_rows (take p pages))
   pub higher : Each (IsAbove r) (all_rows (drop (p + 1) pages))
 
--- where there are pages, r can stand in this one alone
-abbrev pub IsSeat : List ℕ → List SharedPage → ℕ → Type 0
-IsSeat r pages p = 0 < length pages → IsPageOf r pages p
+-- where there are pages, r can stand in this one alone, at this place among its rows
+pub record IsHere (r : List ℕ) (pages : List SharedPage) (s : Spot) : Type 0 where
+  pub page : IsPageOf r pages s.page
+  pub place : IfSome (slice_get pages s.page) (λ h. IsPlace r (page_rows h) s.place)
+
+abbrev pub IsSpot : List ℕ → List SharedPage → Spot → Type 0
+IsSpot r pages s = 0 < length pages → IsHere r pages s
 
 -- the rows of h stand in two pages
 pub record IsHalved (h low high : SharedPage) : Type 0 where

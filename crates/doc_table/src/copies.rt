@@ -5,19 +5,19 @@ ghost use Rattle.doc_table.specs.RowLists.{IsRising, rows_after, is_after, count
 ghost use Rattle.doc_table.specs.Pages.{page_rows, live_rows, all_rows, rows_of, IsPages, IsSound};
 
 use crate::mark::Mark;
-use crate::marked::MarkedRows;
 use crate::page::{SharedPage, is_live};
 use crate::pages::page_of;
-use crate::place::{is_after, push_counted, push_if};
+use crate::place::{counted, is_after, push_if};
+use crate::shared_row::SharedRow;
 use saved_doc::Row;
 use std::alloc::{AllocError, Global};
 
 /// Whether a row is live and above a raw id, if one is given.
-pub fn keeps(live: u64, at: usize, row: &Row, after: Option<&str>) -> bool
+pub fn keeps(live: u64, at: usize, row: &SharedRow, after: Option<&str>) -> bool
     requires { at < 64 }
     ensures { result ≡ ((bit_at live at == 1) && is_after (option_copied after.entry) row.now) }
 {
-    is_live(live, at) && is_after(row, after)
+    is_live(live, at) && is_after(row.row(), after)
 }
 
 /// Pushes copies of a page's rows above a raw id, up to a number of rows.
@@ -34,7 +34,7 @@ fn push_page(
     let rows = held.rows();
     for i in 0..rows.len() {
         let row = &rows[i];
-        push_if(out, row, keeps(held.live, i, row, after), n)?;
+        push_if(out, row.row(), keeps(held.live, i, row, after), n)?;
     }
     Ok(())
 }
@@ -119,18 +119,25 @@ pub fn share(alloc: Global, pages: &[SharedPage]) -> Result<Vec<SharedPage>, All
 }
 
 /// Pushes a copy of a row that is live, with the next of the numbers that count from `from`.
-fn push_counted_if(out: &mut Vec<Row>, row: &Row, live: bool, from: u64) -> Result<(), AllocError>
+fn push_counted_if(
+    out: &mut Vec<SharedRow>,
+    row: &SharedRow,
+    live: bool,
+    from: u64,
+) -> Result<(), AllocError>
     requires { from + length out.old.items < 2 ^ 64 }
     ensures { OnOk result (out.new.items ≡ out.old.items ++ (if live then (record row.now { seq = from + length out.old.items }) ∷ [] else [])) }
 {
     if live {
-        push_counted(out, row, from)?;
+        let alloc = *out.allocator();
+        let seq = from + out.len() as u64;
+        out.push(SharedRow::new(alloc, counted(row.row(), seq)?)?)?;
     }
     Ok(())
 }
 
 /// Copies of a page's live rows with the numbers that count from `from`.
-fn counted_page(alloc: Global, held: &SharedPage, from: u64) -> Result<Vec<Row>, AllocError>
+fn counted_page(alloc: Global, held: &SharedPage, from: u64) -> Result<Vec<SharedRow>, AllocError>
     requires sound { IsSound held.now }
     requires few { from + length (live_rows held.now) < 2 ^ 64 }
     ensures rows { IfOk result (λ v. v.items ≡ counted_from from (live_rows held.now)) }
@@ -145,7 +152,11 @@ fn counted_page(alloc: Global, held: &SharedPage, from: u64) -> Result<Vec<Row>,
 }
 
 /// Pushes a page of rows, if there are any.
-fn push_rows(alloc: Global, out: &mut Vec<SharedPage>, rows: Vec<Row>) -> Result<(), AllocError>
+fn push_rows(
+    alloc: Global,
+    out: &mut Vec<SharedPage>,
+    rows: Vec<SharedRow>,
+) -> Result<(), AllocError>
     requires { length rows.items ≤ 64 }
     ensures live { OnOk result (rows_of out.new.items ≡ rows_of out.old.items ++ rows.items) }
     ensures all { OnOk result (all_rows out.new.items ≡ all_rows out.old.items ++ rows.items) }
@@ -154,7 +165,6 @@ fn push_rows(alloc: Global, out: &mut Vec<SharedPage>, rows: Vec<Row>) -> Result
     if rows.is_empty() {
         return Ok(());
     }
-    let rows = MarkedRows::of(alloc, rows)?;
     out.push(SharedPage::of(alloc, rows)?)?;
     Ok(())
 }

@@ -30,7 +30,7 @@ fn count_in(held: &SharedPage, after: Option<&str>) -> u64
     ensures { result ≡ length (rows_after (option_copied after.entry) (live_rows held.now)) }
 {
     let rows = held.rows();
-    if held.live == u64::MAX && is_after(&rows[0], after) {
+    if held.live == u64::MAX && is_after(rows[0].row(), after) {
         return rows.len() as u64;
     }
     count_each(held, after)

@@ -10,6 +10,7 @@ mod page;
 mod pages;
 mod place;
 mod reader;
+mod shared_row;
 mod table;
 mod writes;
 

@@ -1,4 +1,4 @@
-ghost use Rattle.std.specs.Prelude.{◌≡◌, ◌≤◌, drop, slice_index};
+ghost use Rattle.std.specs.Prelude.{◌≡◌, ◌≤◌, ◌+◌, ◌*◌, ◌^◌, drop, length, slice_index};
 ghost use Rattle.std.specs.Ordering.{nat_cmp, ordering_then};
 ghost use Rattle.doc_table.specs.Marks.{mark_of, IsMarkOf};
 
@@ -12,6 +12,17 @@ pub struct Mark {
     pub second: u128,
 }
 
+/// The first 8 bytes as a number.
+#[inline]
+fn whole_word(bytes: &[u8]) -> u64
+    requires { 8 ≤ length bytes.now }
+    ensures { result ≡ mark_of 8 bytes.now }
+{
+    u64::from_be_bytes([
+        bytes[0], bytes[1], bytes[2], bytes[3], bytes[4], bytes[5], bytes[6], bytes[7],
+    ])
+}
+
 /// The byte at an index, or 0 past the end.
 fn byte_at(bytes: &[u8], at: usize) -> u8
     ensures { result ≡ slice_index bytes.now at }
@@ -22,17 +33,39 @@ fn byte_at(bytes: &[u8], at: usize) -> u8
     }
 }
 
-/// The 16 bytes from an index on as a number.
-fn number_at(bytes: &[u8], from: usize) -> u128
-    requires { from ≤ 16 }
-    ensures { result ≡ mark_of 16 (drop from bytes.now) }
+/// The first 8 bytes as a number, where a byte that is missing counts as 0.
+fn short_word(bytes: &[u8]) -> u64
+    ensures { result ≡ mark_of 8 bytes.now }
 {
-    let mut number: u128 = 0;
-    for i in 0..16 {
-        let byte = byte_at(bytes, from + i);
-        number = number * 256 + u128::from(byte);
+    let mut number: u64 = 0;
+    for i in 0..8 {
+        let byte = byte_at(bytes, i);
+        number = number * 256 + u64::from(byte);
     }
     number
+}
+
+/// The 8 bytes from an index on as a number, where a byte that is missing counts as 0.
+#[inline]
+pub fn word_at(bytes: &[u8], from: usize) -> u64
+    ensures { result ≡ mark_of 8 (drop from bytes.now) }
+{
+    if from >= bytes.len() {
+        return 0;
+    }
+    let rest = &bytes[from..];
+    if rest.len() >= 8 {
+        whole_word(rest)
+    } else {
+        short_word(rest)
+    }
+}
+
+/// Two words as one number.
+fn joined(high: u64, low: u64) -> u128
+    ensures { result ≡ high * 256 ^ 8 + low }
+{
+    u128::from(high) * 0x1_0000_0000_0000_0000 + u128::from(low)
 }
 
 impl Mark {
@@ -41,8 +74,8 @@ impl Mark {
         ensures { IsMarkOf result raw.now }
     {
         let bytes = raw.as_bytes();
-        let first = number_at(bytes, 0);
-        let second = number_at(bytes, 16);
+        let first = joined(word_at(bytes, 0), word_at(bytes, 8));
+        let second = joined(word_at(bytes, 16), word_at(bytes, 24));
         Mark { first, second }
     }
 }

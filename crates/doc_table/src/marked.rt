@@ -1,26 +1,28 @@
-ghost use Rattle.std.specs.Prelude.{◌≡◌, ◌<◌, ◌≤◌, ◌++◌, [], ◌∷◌, length, take, drop, OnOk, OnErr, IfOk, IfSome, slice_get};
-ghost use Rattle.std.specs.List.{remove};
-ghost use Rattle.doc_table.specs.RowLists.{IsRising, order, with_row};
-ghost use Rattle.doc_table.specs.Marks.{IsMarkOf, IsMarked, AreMarks};
+ghost use Rattle.std.specs.Prelude.{◌≡◌, ◌<◌, ◌≤◌, [], length, take, drop, OnOk, OnErr, IfOk, IfSome};
+ghost use Rattle.std.specs.List.{insert, remove};
+ghost use Rattle.doc_table.specs.RowLists.{Each, IsRising, with_row};
+ghost use Rattle.doc_table.specs.Marks.{IsMarked, Begins, IsWordOf, AreMarks, ends_below};
 ghost use Rattle.doc_table.specs.Place.{IsPlace};
 
-use crate::mark::{Mark, compare_marks};
-use crate::place::compare;
-use saved_doc::Row;
+use crate::mark::{Mark, word_at};
+use crate::place::compare_shared;
+use crate::shared_row::SharedRow;
+use arrayvec::ArrayVec;
 use std::alloc::{AllocError, Global};
 use std::cmp::Ordering;
 use std::marker::Model;
 
-/// Rows with the marks of their raw ids in a list beside them, so that a search reads few of the rows.
-/// Contracts see the rows.
+/// Rows of one page with the first bytes that all their raw ids have, and of each the next eight as a
+/// number, so that a search reads few of the rows. Contracts see the rows.
 #[derive(Debug, Drop)]
 pub struct MarkedRows {
-    rows: Vec<Row>,
-    marks: Vec<Mark>,
+    rows: Vec<SharedRow>,
+    prefix: ArrayVec<u8, 32>,
+    marks: ArrayVec<u64, 64>,
 }
 
 impl Model for MarkedRows {
-    ghost use Rattle.std.specs.Prelude.{List};
+    ghost use Rattle.std.specs.Prelude.{List, ◌≤◌, length};
     ghost use Rattle.std.specs.Coded.{coded_list};
     ghost use Rattle.saved_doc.specs.contracts.doc.Row as row;
     ghost use Rattle.saved_doc.specs.declared.doc.Row.{Row as OneRow};
@@ -32,7 +34,7 @@ impl Model for MarkedRows {
 
     ghost view = { λ r. r.rows.items };
 
-    ghost invariant = { λ r. AreMarks r.marks.items r.rows.items };
+    ghost invariant = { λ r. (length r.rows.items ≤ 64) × AreMarks r.prefix.items r.marks.items r.rows.items };
 }
 
 impl MarkedRows {
@@ -42,21 +44,29 @@ impl MarkedRows {
     {
         MarkedRows {
             rows: Vec::new(alloc),
-            marks: Vec::new(alloc),
+            prefix: ArrayVec::new(),
+            marks: ArrayVec::new(),
         }
     }
 
-    /// These rows.
-    pub fn of(alloc: Global, rows: Vec<Row>) -> Result<MarkedRows, AllocError>
-        ensures { IfOk result (λ r. r ≡ rows.items) }
+    /// These rows. Takes no memory.
+    pub fn of(rows: Vec<SharedRow>) -> MarkedRows
+        requires { length rows.items ≤ 64 }
+        ensures { result ≡ rows.items }
     {
-        let marks = marks_of(alloc, rows.as_slice())?;
-        Ok(MarkedRows { rows, marks })
+        let prefix = common_prefix(rows.as_slice());
+        let marks = marks_of(rows.as_slice(), prefix.as_slice());
+        MarkedRows {
+            rows,
+            prefix,
+            marks,
+        }
     }
 
     /// The rows. Takes no memory.
-    pub fn rows(&self) -> &[Row]
-        ensures { result.now ≡ self.now }
+    pub fn rows(&self) -> &[SharedRow]
+        ensures value { result.now ≡ self.now }
+        ensures few { length self.now ≤ 64 }
     {
         self.rows.as_slice()
     }
@@ -65,54 +75,36 @@ impl MarkedRows {
     pub fn first_mark(&self) -> Mark
         ensures { IsMarked result self.now }
     {
-        if self.marks.is_empty() {
-            return Mark {
-                first: 0,
-                second: 0,
-            };
-        }
-        self.marks[0]
+        first_mark(self.rows.as_slice())
     }
 
-    /// The mark of a row's raw id.
-    pub fn mark_at(&self, at: usize) -> Mark
-        requires { at < length self.now }
-        ensures { IfSome (slice_get self.now at) (λ x. IsMarkOf result x.raw) }
-    {
-        self.marks[at]
-    }
-
-    /// The place of a raw id, which has this mark.
-    pub fn place(&self, raw: &str, key: Mark) -> Result<usize, usize>
-        requires rising { IsRising self.now }
-        requires key { IsMarkOf key raw.now }
+    /// The place of a raw id.
+    pub fn place(&self, raw: &str) -> Result<usize, usize>
+        requires { IsRising self.now }
         ensures { IsPlace raw.now self.now result }
     {
-        place(self.rows.as_slice(), self.marks.as_slice(), raw, key)
+        place(
+            self.rows.as_slice(),
+            self.prefix.as_slice(),
+            self.marks.as_slice(),
+            raw,
+        )
     }
 
-    /// Adds a row at the end, whose raw id has this mark.
-    pub fn push(&mut self, row: Row, mark: Mark) -> Result<(), AllocError>
-        requires { IsMarkOf mark row.raw }
-        ensures { OnOk result (self.new ≡ self.old ++ row ∷ []) }
-    {
-        push_both(&mut self.rows, &mut self.marks, row, mark)
-    }
-
-    /// Puts a row, whose raw id has this mark, at its place.
-    pub fn put(&mut self, row: Row, key: Mark) -> Result<(), AllocError>
-        requires rising { IsRising self.old }
-        requires key { IsMarkOf key row.raw }
+    /// Puts a row at its place.
+    pub fn put(&mut self, place: Result<usize, usize>, row: SharedRow) -> Result<(), AllocError>
+        requires place { IsPlace row.raw self.old place }
+        requires room { length (with_row row self.old) ≤ 64 }
         ensures ok { OnOk result (self.new ≡ with_row row self.old) }
         ensures err { OnErr result (self.new ≡ self.old) }
     {
-        let place = place(
-            self.rows.as_slice(),
-            self.marks.as_slice(),
-            row.raw.as_str(),
-            key,
-        );
-        put_both(&mut self.rows, &mut self.marks, place, row, key)
+        put_all(
+            &mut self.rows,
+            &mut self.prefix,
+            &mut self.marks,
+            place,
+            row,
+        )
     }
 
     /// Takes a row out. Takes no memory.
@@ -120,7 +112,7 @@ impl MarkedRows {
         requires { at < length self.old }
         ensures { self.new ≡ remove self.old at }
     {
-        remove_both(&mut self.rows, &mut self.marks, at);
+        remove_both(&mut self.rows, self.prefix.as_slice(), &mut self.marks, at);
     }
 
     /// Takes the rows from an index on out.
@@ -130,49 +122,183 @@ impl MarkedRows {
         ensures upper { IfOk result (λ upper. upper ≡ drop at self.old) }
         ensures err { OnErr result (self.new ≡ self.old) }
     {
-        let (rows, marks) = split_both(alloc, &mut self.rows, &mut self.marks, at)?;
-        Ok(MarkedRows { rows, marks })
+        let _ = alloc;
+        split_all(&mut self.rows, &mut self.prefix, &mut self.marks, at)
     }
 }
 
-/// The marks of these rows' raw ids.
-fn marks_of(alloc: Global, rows: &[Row]) -> Result<Vec<Mark>, AllocError>
-    ensures { IfOk result (λ marks. AreMarks marks.items rows.now) }
+/// The mark of the first row's raw id, or one of zeros where there is no row.
+fn first_mark(rows: &[SharedRow]) -> Mark
+    ensures { IsMarked result rows.now }
 {
-    let mut marks = Vec::with_capacity(alloc, rows.len())?;
+    if rows.is_empty() {
+        return Mark {
+            first: 0,
+            second: 0,
+        };
+    }
+    Mark::of(rows[0].row().raw.as_str())
+}
+
+/// How many of the first bytes of two texts are the same, up to a number.
+fn common_len(bytes: &[u8], other: &[u8], most: usize) -> usize
+    requires { most ≤ length bytes.now }
+    ensures few { result ≤ most }
+    ensures same { take result bytes.now ≡ take result other.now }
+{
+    for i in 0..most {
+        if i >= other.len() {
+            return i;
+        }
+        if bytes[i] != other[i] {
+            return i;
+        }
+    }
+    most
+}
+
+/// How many of a text's first bytes these rows' raw ids have too, up to a number.
+fn common_with(bytes: &[u8], rows: &[SharedRow], most: usize) -> usize
+    requires { most ≤ length bytes.now }
+    ensures few { result ≤ most }
+    ensures same { Each (λ x. take result bytes.now ≡ take result x.raw) rows.now }
+{
+    let mut len = most;
     for i in 0..rows.len() {
-        let mark = Mark::of(rows[i].raw.as_str());
-        marks.push(mark)?;
+        len = common_len(bytes, rows[i].row().raw.as_bytes(), len);
     }
-    Ok(marks)
+    len
 }
 
-/// The order of a row's raw id and this one, by their marks. Only where these are the same the row is
-/// looked at.
-pub fn compare_marked(row: &Row, mark: Mark, raw: &str, key: Mark) -> Ordering
-    requires row { IsMarkOf mark row.now.raw }
-    requires key { IsMarkOf key raw.now }
-    ensures { result ≡ order row.now.raw raw.now }
+/// These bytes.
+fn bytes_of(bytes: &[u8]) -> ArrayVec<u8, 32>
+    requires { length bytes.now ≤ 32 }
+    ensures { result.items ≡ bytes.now }
 {
-    match compare_marks(mark, key) {
-        Ordering::Less => Ordering::Less,
-        Ordering::Equal => compare(row, raw),
-        Ordering::Greater => Ordering::Greater,
+    let mut held = ArrayVec::new();
+    for byte in bytes {
+        held.push(*byte);
+    }
+    held
+}
+
+/// First bytes that all raw ids of these rows have.
+fn common_prefix(rows: &[SharedRow]) -> ArrayVec<u8, 32>
+    ensures { Each (λ x. Begins result.items x.raw) rows.now }
+{
+    if rows.is_empty() {
+        return ArrayVec::new();
+    }
+    let first = rows[0].row().raw.as_bytes();
+    let len = common_with(first, rows, first.len().min(32));
+    bytes_of(&first[..len])
+}
+
+/// The mark of a raw id, which begins with the prefix.
+#[inline]
+fn mark_after(prefix: &[u8], raw: &str) -> u64
+    requires { Begins prefix.now raw.now }
+    ensures { IsWordOf prefix.now result raw.now }
+{
+    word_at(raw.as_bytes(), prefix.len())
+}
+
+/// The marks of these rows' raw ids, which begin with a prefix.
+fn marks_of(rows: &[SharedRow], prefix: &[u8]) -> ArrayVec<u64, 64>
+    requires few { length rows.now ≤ 64 }
+    requires prefix { Each (λ x. Begins prefix.now x.raw) rows.now }
+    ensures { AreMarks prefix.now result.items rows.now }
+{
+    let mut marks = ArrayVec::new();
+    for i in 0..rows.len() {
+        marks.push(mark_after(prefix, rows[i].row().raw.as_str()));
+    }
+    marks
+}
+
+/// The mark of a raw id, if it begins with the prefix.
+#[inline]
+fn key_of(prefix: &[u8], raw: &str) -> Option<u64>
+    ensures { IfSome result (λ key. IsWordOf prefix.now key raw.now) }
+{
+    if raw.as_bytes().starts_with(prefix) {
+        Some(mark_after(prefix, raw))
+    } else {
+        None
     }
 }
 
-/// The place of a raw id, by halves.
-fn place(rows: &[Row], marks: &[Mark], raw: &str, key: Mark) -> Result<usize, usize>
+/// How many marks are below a key. All are counted, since a loop that nothing leaves early is fast.
+#[inline]
+fn count_below(marks: &[u64], key: u64) -> usize
+    ensures { result ≤ length marks.now }
+{
+    let mut count = 0;
+    for mark in marks {
+        if *mark < key {
+            count += 1;
+        }
+    }
+    count
+}
+
+/// Whether the mark before an index, if there is one, is below a key.
+#[inline]
+fn ends_below(marks: &[u64], at: usize, key: u64) -> bool
+    requires { at ≤ length marks.now }
+    ensures { result ≡ ends_below marks.now at key }
+{
+    if at == 0 {
+        return true;
+    }
+    marks[at - 1] < key
+}
+
+/// The place of a raw id with this mark, where the marks and a look at one row tell it.
+#[inline]
+fn place_by_marks(
+    rows: &[SharedRow],
+    prefix: &[u8],
+    marks: &[u64],
+    raw: &str,
+    key: u64,
+) -> Option<Result<usize, usize>>
     requires rising { IsRising rows.now }
-    requires marks { AreMarks marks.now rows.now }
-    requires key { IsMarkOf key raw.now }
+    requires marks { AreMarks prefix.now marks.now rows.now }
+    requires key { IsWordOf prefix.now key raw.now }
+    ensures { IfSome result (IsPlace raw.now rows.now) }
+{
+    let _ = prefix;
+    let at = count_below(marks, key);
+    if !ends_below(marks, at, key) {
+        return None;
+    }
+    if at == marks.len() {
+        return Some(Err(at));
+    }
+    if marks[at] > key {
+        return Some(Err(at));
+    }
+    if marks[at] < key {
+        return None;
+    }
+    match compare_shared(&rows[at], raw) {
+        Ordering::Less => None,
+        Ordering::Equal => Some(Ok(at)),
+        Ordering::Greater => Some(Err(at)),
+    }
+}
+
+/// The place of a raw id, by halves, where the rows themselves are read.
+pub fn place_by_halves(rows: &[SharedRow], raw: &str) -> Result<usize, usize>
+    requires { IsRising rows.now }
     ensures { IsPlace raw.now rows.now result }
 {
     let mut low = 0;
     let mut high = rows.len();
     while low < high {
         let mid = low + (high - low) / 2;
-        match compare_marked(&rows[mid], marks[mid], raw, key) {
+        match compare_shared(&rows[mid], raw) {
             Ordering::Less => low = mid + 1,
             Ordering::Equal => return Ok(mid),
             Ordering::Greater => high = mid,
@@ -181,89 +307,158 @@ fn place(rows: &[Row], marks: &[Mark], raw: &str, key: Mark) -> Result<usize, us
     Err(low)
 }
 
-/// Adds a row and its mark at the ends. All memory is taken first.
-fn push_both(
-    rows: &mut Vec<Row>,
-    marks: &mut Vec<Mark>,
-    row: Row,
-    mark: Mark,
-) -> Result<(), AllocError>
-    requires marks { AreMarks marks.old.items rows.old.items }
-    requires mark { IsMarkOf mark row.raw }
-    ensures rows { OnOk result (rows.new.items ≡ rows.old.items ++ row ∷ []) }
-    ensures marks { AreMarks marks.new.items rows.new.items }
+/// The place of a raw id, by its mark if that tells it.
+fn place(rows: &[SharedRow], prefix: &[u8], marks: &[u64], raw: &str) -> Result<usize, usize>
+    requires rising { IsRising rows.now }
+    requires marks { AreMarks prefix.now marks.now rows.now }
+    ensures { IsPlace raw.now rows.now result }
 {
-    marks.reserve(1)?;
-    rows.push(row)?;
-    marks.push(mark)?;
-    Ok(())
+    if let Some(key) = key_of(prefix, raw) {
+        if let Some(place) = place_by_marks(rows, prefix, marks, raw, key) {
+            return place;
+        }
+    }
+    place_by_halves(rows, raw)
 }
 
-/// Puts a row and its mark at the row's place. All memory is taken first.
-fn put_both(
-    rows: &mut Vec<Row>,
-    marks: &mut Vec<Mark>,
-    place: Result<usize, usize>,
-    row: Row,
-    mark: Mark,
-) -> Result<(), AllocError>
-    requires place { IsPlace row.raw rows.old.items place }
-    requires marks { AreMarks marks.old.items rows.old.items }
-    requires mark { IsMarkOf mark row.raw }
-    ensures ok { OnOk result (rows.new.items ≡ with_row row rows.old.items) }
-    ensures err { OnErr result (rows.new.items ≡ rows.old.items) }
-    ensures marks { AreMarks marks.new.items rows.new.items }
+/// Makes the prefix and the marks anew.
+fn mark_anew(rows: &[SharedRow], prefix: &mut ArrayVec<u8, 32>, marks: &mut ArrayVec<u64, 64>)
+    requires { length rows.now ≤ 64 }
+    ensures { AreMarks prefix.new.items marks.new.items rows.now }
 {
-    match place {
-        Ok(at) => {
-            rows[at] = row;
-            marks[at] = mark;
-        }
-        Err(at) => {
-            marks.reserve(1)?;
-            rows.insert(at, row)?;
-            marks.insert(at, mark)?;
-        }
+    *prefix = common_prefix(rows);
+    *marks = marks_of(rows, prefix.as_slice());
+}
+
+/// Whether the first and the last mark are the same in their upper halves, so that a longer prefix
+/// may tell the raw ids apart.
+fn are_near(marks: &[u64]) -> bool {
+    if marks.is_empty() {
+        return true;
+    }
+    let last = marks[marks.len() - 1];
+    marks[0] / 0x1_0000_0000 == last / 0x1_0000_0000
+}
+
+/// Makes the prefix and the marks anew where the marks tell little.
+fn sharpen(rows: &[SharedRow], prefix: &mut ArrayVec<u8, 32>, marks: &mut ArrayVec<u64, 64>)
+    requires few { length rows.now ≤ 64 }
+    requires marks { AreMarks prefix.old.items marks.old.items rows.now }
+    ensures { AreMarks prefix.new.items marks.new.items rows.now }
+{
+    if are_near(marks.as_slice()) {
+        mark_anew(rows, prefix, marks);
+    }
+}
+
+/// The key of a raw id that comes to these rows, if it begins with the prefix. The first row of all
+/// has none, so that the prefix becomes its own.
+fn key_among(prefix: &[u8], marks: &[u64], raw: &str) -> Option<u64>
+    ensures { IfSome result (λ key. IsWordOf prefix.now key raw.now) }
+{
+    if marks.is_empty() {
+        return None;
+    }
+    key_of(prefix, raw)
+}
+
+/// Puts a row, whose raw id is new, and its mark at an index. All memory is taken first.
+fn put_new(
+    rows: &mut Vec<SharedRow>,
+    prefix: &mut ArrayVec<u8, 32>,
+    marks: &mut ArrayVec<u64, 64>,
+    at: usize,
+    row: SharedRow,
+) -> Result<(), AllocError>
+    requires within { at ≤ length rows.old.items }
+    requires room { length rows.old.items < 64 }
+    requires marks { AreMarks prefix.old.items marks.old.items rows.old.items }
+    ensures ok { OnOk result (rows.new.items ≡ insert rows.old.items at row) }
+    ensures err { OnErr result (rows.new.items ≡ rows.old.items) }
+    ensures marks { AreMarks prefix.new.items marks.new.items rows.new.items }
+{
+    let key = key_among(prefix.as_slice(), marks.as_slice(), row.row().raw.as_str());
+    rows.insert(at, row)?;
+    match key {
+        Some(key) => marks.insert(at, key),
+        None => mark_anew(rows.as_slice(), prefix, marks),
     }
     Ok(())
 }
 
-/// Takes a row and its mark out.
-fn remove_both(rows: &mut Vec<Row>, marks: &mut Vec<Mark>, at: usize)
-    requires within { at < length rows.old.items }
-    requires marks { AreMarks marks.old.items rows.old.items }
-    ensures rows { rows.new.items ≡ remove rows.old.items at }
-    ensures marks { AreMarks marks.new.items rows.new.items }
+/// Puts a row at its place. Its mark is there already where its raw id is.
+fn put_all(
+    rows: &mut Vec<SharedRow>,
+    prefix: &mut ArrayVec<u8, 32>,
+    marks: &mut ArrayVec<u64, 64>,
+    place: Result<usize, usize>,
+    row: SharedRow,
+) -> Result<(), AllocError>
+    requires place { IsPlace row.raw rows.old.items place }
+    requires room { length (with_row row rows.old.items) ≤ 64 }
+    requires marks { AreMarks prefix.old.items marks.old.items rows.old.items }
+    ensures ok { OnOk result (rows.new.items ≡ with_row row rows.old.items) }
+    ensures err { OnErr result (rows.new.items ≡ rows.old.items) }
+    ensures marks { AreMarks prefix.new.items marks.new.items rows.new.items }
 {
+    match place {
+        Ok(at) => {
+            rows[at] = row;
+            Ok(())
+        }
+        Err(at) => put_new(rows, prefix, marks, at, row),
+    }
+}
+
+/// Takes a row and its mark out.
+fn remove_both(rows: &mut Vec<SharedRow>, prefix: &[u8], marks: &mut ArrayVec<u64, 64>, at: usize)
+    requires within { at < length rows.old.items }
+    requires marks { AreMarks prefix.now marks.old.items rows.old.items }
+    ensures rows { rows.new.items ≡ remove rows.old.items at }
+    ensures marks { AreMarks prefix.now marks.new.items rows.new.items }
+{
+    let _ = prefix;
     drop(rows.remove(at));
     let _ = marks.remove(at);
 }
 
 /// The marks from an index on.
-fn marks_from(alloc: Global, marks: &[Mark], at: usize) -> Result<Vec<Mark>, AllocError>
-    requires { at ≤ length marks.now }
-    ensures { IfOk result (λ upper. upper.items ≡ drop at marks.now) }
+fn marks_from(marks: &[u64], at: usize) -> ArrayVec<u64, 64>
+    requires within { at ≤ length marks.now }
+    requires few { length marks.now ≤ 64 }
+    ensures { result.items ≡ drop at marks.now }
 {
-    Vec::from_slice(alloc, &marks[at..])
+    let mut upper = ArrayVec::new();
+    for mark in &marks[at..] {
+        upper.push(*mark);
+    }
+    upper
 }
 
-/// Takes the rows and the marks from an index on out. All memory is taken first.
-fn split_both(
-    alloc: Global,
-    rows: &mut Vec<Row>,
-    marks: &mut Vec<Mark>,
+/// Takes the rows from an index on out. All memory is taken first.
+fn split_all(
+    rows: &mut Vec<SharedRow>,
+    prefix: &mut ArrayVec<u8, 32>,
+    marks: &mut ArrayVec<u64, 64>,
     at: usize,
-) -> Result<(Vec<Row>, Vec<Mark>), AllocError>
+) -> Result<MarkedRows, AllocError>
     requires within { at ≤ length rows.old.items }
-    requires marks { AreMarks marks.old.items rows.old.items }
+    requires few { length rows.old.items ≤ 64 }
+    requires marks { AreMarks prefix.old.items marks.old.items rows.old.items }
     ensures lower { OnOk result (rows.new.items ≡ take at rows.old.items) }
-    ensures upper { IfOk result (λ upper. upper.0.items ≡ drop at rows.old.items) }
-    ensures upper_marks { IfOk result (λ upper. AreMarks upper.1.items upper.0.items) }
+    ensures upper { IfOk result (λ upper. upper ≡ drop at rows.old.items) }
     ensures err { OnErr result (rows.new.items ≡ rows.old.items) }
-    ensures marks { AreMarks marks.new.items rows.new.items }
+    ensures marks { AreMarks prefix.new.items marks.new.items rows.new.items }
 {
-    let upper_marks = marks_from(alloc, marks.as_slice(), at)?;
     let upper_rows = rows.split_off(at)?;
+    let mut upper_prefix = bytes_of(prefix.as_slice());
+    let mut upper_marks = marks_from(marks.as_slice(), at);
     marks.truncate(at);
-    Ok((upper_rows, upper_marks))
+    sharpen(rows.as_slice(), prefix, marks);
+    sharpen(upper_rows.as_slice(), &mut upper_prefix, &mut upper_marks);
+    Ok(MarkedRows {
+        rows: upper_rows,
+        prefix: upper_prefix,
+        marks: upper_marks,
+    })
 }

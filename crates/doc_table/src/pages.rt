@@ -3,34 +3,40 @@ ghost use Rattle.std.specs.Option.{option_copied};
 ghost use Rattle.doc_table.specs.RowLists.{found, with_row, below, above};
 ghost use Rattle.base_model.specs.Keyed.{at};
 ghost use Rattle.doc_table.specs.Marks.{IsMarkOf};
-ghost use Rattle.doc_table.specs.Pages.{rows_of, IsPages, IsPageOf, IsSeat};
+ghost use Rattle.doc_table.specs.Pages.{rows_of, IsPages, IsPageOf, IsSpot};
 ghost use Rattle.doc_table.specs.Tables.{entries, number_in};
 
 use crate::mark::Mark;
-use crate::marked::MarkedRows;
 use crate::page::{
-    SharedPage, has_room, is_dead, put_alone, rewritten, starts_above, upper_half, without_row,
+    SharedPage, has_room, is_dead, put_alone, put_found, rewritten, starts_above, upper_half,
+    without_row,
 };
+use crate::shared_row::SharedRow;
 use saved_doc::Row;
 use std::alloc::AllocError;
+
+/// Where a raw id stands in a list of pages, or would: its page, and its place among that page's rows.
+#[derive(Clone, Copy, Debug)]
+pub struct Spot {
+    pub page: usize,
+    pub place: Result<usize, usize>,
+}
 
 /// Puts a row into its page, where that isn't shared and has room, or gives the row back.
 fn put_in_place(
     pages: &mut Vec<SharedPage>,
     p: usize,
-    row: Row,
-    key: Mark,
-) -> Result<Option<Row>, AllocError>
+    row: SharedRow,
+) -> Result<Option<SharedRow>, AllocError>
     requires pages { IsPages pages.old.items }
     requires place { IsPageOf row.raw pages.old.items p }
-    requires key { IsMarkOf key row.raw }
     ensures told { MatchResult result (λ back. MatchOption back (rows_of pages.new.items ≡ with_row row (rows_of pages.old.items)) (λ r. (r ≡ row) × (pages.new.items ≡ pages.old.items))) (λ _. rows_of pages.new.items ≡ rows_of pages.old.items) }
     ensures pages { IsPages pages.new.items }
 {
-    if !has_room(&pages[p], &row, key) {
+    if !has_room(&pages[p], &row) {
         return Ok(Some(row));
     }
-    match put_alone(&mut pages[p], row, key) {
+    match put_alone(&mut pages[p], row) {
         Err(refused) => Err(refused),
         Ok(back) => match back {
             None => Ok(None),
@@ -61,60 +67,53 @@ fn halve(pages: &mut Vec<SharedPage>, p: usize) -> Result<bool, AllocError>
 }
 
 /// The page in which a row can stand, after a page without room for it was halved where it can be.
-fn with_room(
-    pages: &mut Vec<SharedPage>,
-    p: usize,
-    row: &Row,
-    key: Mark,
-) -> Result<usize, AllocError>
+fn with_room(pages: &mut Vec<SharedPage>, p: usize, row: &SharedRow) -> Result<usize, AllocError>
     requires pages { IsPages pages.old.items }
     requires place { IsPageOf row.now.raw pages.old.items p }
-    requires key { IsMarkOf key row.now.raw }
     ensures place { IfOk result (λ q. IsPageOf row.now.raw pages.new.items q) }
     ensures rows { rows_of pages.new.items ≡ rows_of pages.old.items }
     ensures pages { IsPages pages.new.items }
 {
-    if has_room(&pages[p], row, key) {
+    if has_room(&pages[p], row) {
         return Ok(p);
     }
     if !halve(pages, p)? {
         return Ok(p);
     }
-    Ok(page_of(pages.as_slice(), row.raw.as_str(), key))
+    let raw = row.row().raw.as_str();
+    Ok(page_of(pages.as_slice(), raw, Mark::of(raw)))
 }
 
 /// Puts a row into its page.
-pub fn put_row(pages: &mut Vec<SharedPage>, p: usize, row: Row, key: Mark) -> Result<(), AllocError>
+fn put_row(pages: &mut Vec<SharedPage>, p: usize, row: SharedRow) -> Result<(), AllocError>
     requires pages { IsPages pages.old.items }
     requires place { IsPageOf row.raw pages.old.items p }
-    requires key { IsMarkOf key row.raw }
     ensures ok { OnOk result (rows_of pages.new.items ≡ with_row row (rows_of pages.old.items)) }
     ensures err { OnErr result (rows_of pages.new.items ≡ rows_of pages.old.items) }
     ensures pages { IsPages pages.new.items }
 {
-    let q = with_room(pages, p, &row, key)?;
-    match put_in_place(pages, q, row, key)? {
+    let q = with_room(pages, p, &row)?;
+    match put_in_place(pages, q, row)? {
         None => Ok(()),
-        Some(row) => put_copied(pages, q, row, key),
+        Some(row) => put_copied(pages, q, row),
     }
 }
 
-/// Puts a row into copies of its page's live rows, in one page or two.
-fn put_copied(pages: &mut Vec<SharedPage>, p: usize, row: Row, key: Mark) -> Result<(), AllocError>
+/// Puts a row into a new page of its page's live rows, or into two.
+fn put_copied(pages: &mut Vec<SharedPage>, p: usize, row: SharedRow) -> Result<(), AllocError>
     requires pages { IsPages pages.old.items }
     requires place { IsPageOf row.raw pages.old.items p }
-    requires key { IsMarkOf key row.raw }
     ensures ok { OnOk result (rows_of pages.new.items ≡ with_row row (rows_of pages.old.items)) }
     ensures err { OnErr result (rows_of pages.new.items ≡ rows_of pages.old.items) }
     ensures pages { IsPages pages.new.items }
 {
     let alloc = *pages.allocator();
-    let mut rows = rewritten(alloc, &pages[p], row, key)?;
-    if rows.rows().len() <= 64 {
+    let mut rows = rewritten(alloc, &pages[p], row)?;
+    if rows.len() <= 64 {
         pages[p] = SharedPage::of(alloc, rows)?;
         return Ok(());
     }
-    let right = rows.split_off(alloc, 32)?;
+    let right = rows.split_off(32)?;
     let left = SharedPage::of(alloc, rows)?;
     let right = SharedPage::of(alloc, right)?;
     pages.insert(p + 1, right)?;
@@ -122,20 +121,25 @@ fn put_copied(pages: &mut Vec<SharedPage>, p: usize, row: Row, key: Mark) -> Res
     Ok(())
 }
 
-/// Clears a raw id's bit in its page, and takes an emptied page out.
-pub fn clear_row(pages: &mut Vec<SharedPage>, p: usize, raw: &str, key: Mark)
+/// Puts a row at its place in its page, where the page takes it there as it stands, or gives the row
+/// back.
+fn put_in_spot(
+    pages: &mut Vec<SharedPage>,
+    spot: Spot,
+    row: SharedRow,
+) -> Result<Option<SharedRow>, AllocError>
     requires pages { IsPages pages.old.items }
-    requires place { IsPageOf raw.now pages.old.items p }
-    requires key { IsMarkOf key raw.now }
-    ensures rows { rows_of pages.new.items ≡ below raw.now (rows_of pages.old.items) ++ above raw.now (rows_of pages.old.items) }
+    requires some { 0 < length pages.old.items }
+    requires spot { IsSpot row.raw pages.old.items spot }
+    ensures told { MatchResult result (λ back. MatchOption back (rows_of pages.new.items ≡ with_row row (rows_of pages.old.items)) (λ r. (r ≡ row) × (pages.new.items ≡ pages.old.items))) (λ _. pages.new.items ≡ pages.old.items) }
     ensures pages { IsPages pages.new.items }
 {
-    let held = &pages[p];
-    let live = without_row(held, raw, key);
-    if is_dead(held, live) {
-        drop(pages.remove(p));
-    } else {
-        pages[p].live = live;
+    match put_found(&mut pages[spot.page], spot.place, row) {
+        Err(refused) => Err(refused),
+        Ok(back) => match back {
+            None => Ok(None),
+            Some(row) => Ok(Some(row)),
+        },
     }
 }
 
@@ -159,23 +163,26 @@ pub fn page_of(pages: &[SharedPage], raw: &str, key: Mark) -> usize
     low.saturating_sub(1)
 }
 
-/// Puts a row into this page, in which it can stand, or into the first one.
-pub fn put_seated(pages: &mut Vec<SharedPage>, p: usize, row: Row) -> Result<(), AllocError>
+/// Puts a row into its page, or makes the first one.
+pub fn put_seated(pages: &mut Vec<SharedPage>, spot: Spot, row: Row) -> Result<(), AllocError>
     requires pages { IsPages pages.old.items }
-    requires seat { IsSeat row.raw pages.old.items p }
+    requires spot { IsSpot row.raw pages.old.items spot }
     ensures ok { OnOk result (rows_of pages.new.items ≡ with_row row (rows_of pages.old.items)) }
     ensures err { OnErr result (rows_of pages.new.items ≡ rows_of pages.old.items) }
     ensures pages { IsPages pages.new.items }
 {
+    let row = SharedRow::new(*pages.allocator(), row)?;
     if pages.is_empty() {
         return first_page(pages, row);
     }
-    let key = Mark::of(row.raw.as_str());
-    put_row(pages, p, row, key)
+    match put_in_spot(pages, spot, row)? {
+        None => Ok(()),
+        Some(row) => put_row(pages, spot.page, row),
+    }
 }
 
 /// Makes the first page, of one row.
-fn first_page(pages: &mut Vec<SharedPage>, row: Row) -> Result<(), AllocError>
+fn first_page(pages: &mut Vec<SharedPage>, row: SharedRow) -> Result<(), AllocError>
     requires { pages.old.items ≡ [] }
     ensures ok { OnOk result (rows_of pages.new.items ≡ row ∷ []) }
     ensures err { OnErr result (pages.new.items ≡ pages.old.items) }
@@ -184,20 +191,37 @@ fn first_page(pages: &mut Vec<SharedPage>, row: Row) -> Result<(), AllocError>
     let alloc = *pages.allocator();
     let mut rows = Vec::new(alloc);
     rows.push(row)?;
-    let rows = MarkedRows::of(alloc, rows)?;
     pages.push(SharedPage::of(alloc, rows)?)?;
     Ok(())
 }
 
-/// Takes out a raw id's row, which stands in this page or in none.
-pub fn clear_seated(pages: &mut Vec<SharedPage>, p: usize, raw: &str)
+/// Takes out a raw id's row, which stands here or nowhere, and a page that is emptied by it.
+pub fn clear_seated(pages: &mut Vec<SharedPage>, spot: Spot, raw: &str)
     requires pages { IsPages pages.old.items }
-    requires seat { IsSeat raw.now pages.old.items p }
+    requires spot { IsSpot raw.now pages.old.items spot }
     ensures rows { rows_of pages.new.items ≡ below raw.now (rows_of pages.old.items) ++ above raw.now (rows_of pages.old.items) }
     ensures pages { IsPages pages.new.items }
 {
     if !pages.is_empty() {
-        clear_row(pages, p, raw, Mark::of(raw));
+        clear_row(pages, spot, raw);
+    }
+}
+
+/// Clears a raw id's bit in its page, and takes an emptied page out.
+fn clear_row(pages: &mut Vec<SharedPage>, spot: Spot, raw: &str)
+    requires pages { IsPages pages.old.items }
+    requires some { 0 < length pages.old.items }
+    requires spot { IsSpot raw.now pages.old.items spot }
+    ensures rows { rows_of pages.new.items ≡ below raw.now (rows_of pages.old.items) ++ above raw.now (rows_of pages.old.items) }
+    ensures pages { IsPages pages.new.items }
+{
+    let p = spot.page;
+    let held = &pages[p];
+    let live = without_row(held, raw, spot.place);
+    if is_dead(held, live) {
+        drop(pages.remove(p));
+    } else {
+        pages[p].live = live;
     }
 }
 
@@ -209,26 +233,30 @@ pub fn look_in<'a>(pages: &'a [SharedPage], raw: &str) -> Option<&'a Row>
     if pages.is_empty() {
         return None;
     }
-    let key = Mark::of(raw);
-    let p = page_of(pages, raw, key);
+    let p = page_of(pages, raw, Mark::of(raw));
     let held = &pages[p];
-    held.look(raw, key)
+    held.look(raw, held.place(raw))
 }
 
-/// The page in which a raw id stands, or would, and the number of its row, if there is one.
-pub fn find(pages: &[SharedPage], raw: &str) -> (usize, Option<u64>)
+/// Where a raw id stands, or would, and the number of its row, if there is one.
+pub fn find(pages: &[SharedPage], raw: &str) -> (Spot, Option<u64>)
     requires { IsPages pages.now }
-    ensures seat { IsSeat raw.now pages.now result.0 }
+    ensures spot { IsSpot raw.now pages.now result.0 }
     ensures number { result.1 ≡ number_in (at raw.now (entries (rows_of pages.now))) }
 {
     if pages.is_empty() {
-        return (0, None);
+        let nowhere = Spot {
+            page: 0,
+            place: Err(0),
+        };
+        return (nowhere, None);
     }
-    let key = Mark::of(raw);
-    let p = page_of(pages, raw, key);
-    let held = &pages[p];
-    match held.look(raw, key) {
-        Some(row) => (p, Some(row.seq)),
-        None => (p, None),
+    let page = page_of(pages, raw, Mark::of(raw));
+    let held = &pages[page];
+    let place = held.place(raw);
+    let spot = Spot { page, place };
+    match held.look(raw, place) {
+        Some(row) => (spot, Some(row.seq)),
+        None => (spot, None),
     }
 }

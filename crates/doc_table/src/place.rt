@@ -1,9 +1,10 @@
-ghost use Rattle.std.specs.Prelude.{◌≡◌, ◌≤◌, length, OnOk, OnErr, slice_get};
+ghost use Rattle.std.specs.Prelude.{◌≡◌, ◌≤◌, length, OnOk, OnErr, IfOk, slice_get};
 ghost use Rattle.doc_table.specs.RowLists.{order, IsRising, with_row, below, above, found, meets, is_after};
 ghost use Rattle.std.specs.Option.{option_copied};
 ghost use Rattle.doc_table.specs.Place.{IsPlace};
 ghost use Rattle.std.specs.Prelude.{◌++◌, ◌+◌, ◌<◌, ◌^◌, [], ◌∷◌, take, if◌then◌else◌};
 
+use crate::shared_row::SharedRow;
 use saved_doc::Row;
 use std::alloc::AllocError;
 use std::cmp::Ordering;
@@ -13,6 +14,13 @@ pub fn compare(row: &Row, raw: &str) -> Ordering
     ensures { result ≡ order row.now.raw raw.now }
 {
     row.raw.as_str().cmp(raw)
+}
+
+/// The order of a shared row's raw id and this one.
+pub fn compare_shared(row: &SharedRow, raw: &str) -> Ordering
+    ensures { result ≡ order row.now.raw raw.now }
+{
+    compare(row.row(), raw)
 }
 
 /// The place of a raw id, looked for row by row.
@@ -32,6 +40,23 @@ pub fn scan(rows: &[Row], raw: &str) -> Result<usize, usize>
 
 /// Puts a row at its place.
 pub fn put_at(rows: &mut Vec<Row>, place: Result<usize, usize>, row: Row) -> Result<(), AllocError>
+    requires { IsPlace row.raw rows.old.items place }
+    ensures ok { OnOk result (rows.new.items ≡ with_row row rows.old.items) }
+    ensures err { OnErr result (rows.new.items ≡ rows.old.items) }
+{
+    match place {
+        Ok(at) => rows[at] = row,
+        Err(at) => rows.insert(at, row)?,
+    }
+    Ok(())
+}
+
+/// Puts a row at its place among shared rows.
+pub fn put_shared(
+    rows: &mut Vec<SharedRow>,
+    place: Result<usize, usize>,
+    row: SharedRow,
+) -> Result<(), AllocError>
     requires { IsPlace row.raw rows.old.items place }
     ensures ok { OnOk result (rows.new.items ≡ with_row row rows.old.items) }
     ensures err { OnErr result (rows.new.items ≡ rows.old.items) }
@@ -109,16 +134,23 @@ pub fn push_if(out: &mut Vec<Row>, row: &Row, keep: bool, n: u64) -> Result<(), 
     Ok(())
 }
 
+/// A copy of a row with this number.
+pub fn counted(row: &Row, seq: u64) -> Result<Row, AllocError>
+    ensures { IfOk result (λ r. r ≡ record row.now { seq = seq }) }
+{
+    Ok(Row {
+        raw: row.raw.clone()?,
+        seq,
+        doc: row.doc.clone()?,
+    })
+}
+
 /// Pushes a copy of a row with the next of the numbers that count from `from`.
 pub fn push_counted(out: &mut Vec<Row>, row: &Row, from: u64) -> Result<(), AllocError>
     requires { from + length out.old.items < 2 ^ 64 }
     ensures { OnOk result (out.new.items ≡ out.old.items ++ (record row.now { seq = from + length out.old.items }) ∷ []) }
 {
     let seq = from + out.len() as u64;
-    out.push(Row {
-        raw: row.raw.clone()?,
-        seq,
-        doc: row.doc.clone()?,
-    })?;
+    out.push(counted(row, seq)?)?;
     Ok(())
 }

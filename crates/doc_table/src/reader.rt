@@ -63,7 +63,7 @@ impl<'a> Rows<'a> {
             return None;
         }
         self.at = i + 1;
-        Some(&rows[i])
+        Some(rows[i].row())
     }
 }
 

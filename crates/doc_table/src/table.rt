@@ -3,13 +3,13 @@ ghost use Rattle.std.specs.Option.{option_copied, option_map};
 ghost use Rattle.base_model.specs.Keyed.{at};
 ghost use Rattle.race_model.specs.Stores.{empty_table, found_one, write, write as done, written, dropped, renumbered};
 ghost use Rattle.race_model.specs.Stores.Write.{Create, Put, Delete};
-ghost use Rattle.doc_table.specs.Pages.{rows_of, IsPaged, IsSeat};
+ghost use Rattle.doc_table.specs.Pages.{rows_of, IsPaged, IsSpot};
 ghost use Rattle.doc_table.specs.Tables.{IsTable, entry_of, entries, item_of, write_of, rows_above, table_of};
 
 use crate::copies::{count_pages, share, take_rows};
 use crate::counting::count_above;
 use crate::page::SharedPage;
-use crate::pages::{clear_seated, find, look_in, put_seated};
+use crate::pages::{Spot, clear_seated, find, look_in, put_seated};
 use crate::place::meets;
 use crate::reader::Rows;
 use crate::writes::{Item, Write};
@@ -85,10 +85,10 @@ impl DocTable {
         ensures ok { IfOk result (λ item. (self.new, item_of item) ≡ write self.old (Create raw doc)) }
         ensures err { OnErr result (self.new ≡ self.old) }
     {
-        let (p, now) = find(self.pages.as_slice(), raw.as_str());
+        let (spot, now) = find(self.pages.as_slice(), raw.as_str());
         match now {
             Some(now) => Ok(Item::Exists(now)),
-            None => write_at(&mut self.pages, &mut self.next, p, raw, doc),
+            None => write_at(&mut self.pages, &mut self.next, spot, raw, doc),
         }
     }
 
@@ -107,9 +107,9 @@ impl DocTable {
         ensures ok { IfOk result (λ item. (self.new, item_of item) ≡ write self.old (Put raw doc expect)) }
         ensures err { OnErr result (self.new ≡ self.old) }
     {
-        let (p, now) = find(self.pages.as_slice(), raw.as_str());
+        let (spot, now) = find(self.pages.as_slice(), raw.as_str());
         if meets(expect, now) {
-            return write_at(&mut self.pages, &mut self.next, p, raw, doc);
+            return write_at(&mut self.pages, &mut self.next, spot, raw, doc);
         }
         Ok(Item::Conflict(now))
     }
@@ -122,12 +122,12 @@ impl DocTable {
         requires { self.old.next < 2 ^ 63 }
         ensures { (self.new, item_of result) ≡ write self.old (Delete raw.now expect) }
     {
-        let (p, now) = find(self.pages.as_slice(), raw);
+        let (spot, now) = find(self.pages.as_slice(), raw);
         match now {
             None => Item::NotFound,
             Some(now) => {
                 if meets(expect, Some(now)) {
-                    erase_at(&mut self.pages, &mut self.next, p, raw)
+                    erase_at(&mut self.pages, &mut self.next, spot, raw)
                 } else {
                     Item::Conflict(Some(now))
                 }
@@ -187,38 +187,38 @@ impl DocTable {
     }
 }
 
-/// Puts a row into this page, in which it can stand, with the next number.
+/// Puts a row at this spot, which is its raw id's, with the next number.
 fn write_at(
     pages: &mut Vec<SharedPage>,
     next: &mut u64,
-    p: usize,
+    spot: Spot,
     raw: Text,
     doc: SharedDoc,
 ) -> Result<Item, AllocError>
     requires paged { IsPaged pages.old.items next.old }
-    requires seat { IsSeat raw pages.old.items p }
+    requires spot { IsSpot raw pages.old.items spot }
     requires room { next.old < 2 ^ 63 }
     ensures ok { IfOk result (λ item. (item ≡ Item.Written next.old) × (table_of (rows_of pages.new.items) next.new ≡ written (table_of (rows_of pages.old.items) next.old) raw doc)) }
     ensures err { OnErr result (table_of (rows_of pages.new.items) next.new ≡ table_of (rows_of pages.old.items) next.old) }
     ensures paged { IsPaged pages.new.items next.new }
 {
     let seq = *next;
-    put_seated(pages, p, Row { raw, seq, doc })?;
+    put_seated(pages, spot, Row { raw, seq, doc })?;
     *next += 1;
     Ok(Item::Written(seq))
 }
 
-/// Takes a raw id's row out of this page, in which it stands, and counts the next number up.
-fn erase_at(pages: &mut Vec<SharedPage>, next: &mut u64, p: usize, raw: &str) -> Item
+/// Takes out a raw id's row, which stands at this spot, and counts the next number up.
+fn erase_at(pages: &mut Vec<SharedPage>, next: &mut u64, spot: Spot, raw: &str) -> Item
     requires paged { IsPaged pages.old.items next.old }
-    requires seat { IsSeat raw.now pages.old.items p }
+    requires spot { IsSpot raw.now pages.old.items spot }
     requires room { next.old < 2 ^ 63 }
     ensures item { result ≡ Item.Written next.old }
     ensures table { table_of (rows_of pages.new.items) next.new ≡ dropped (table_of (rows_of pages.old.items) next.old) raw.now }
     ensures paged { IsPaged pages.new.items next.new }
 {
     let seq = *next;
-    clear_seated(pages, p, raw);
+    clear_seated(pages, spot, raw);
     *next += 1;
     Item::Written(seq)
 }

@@ -1,4 +1,4 @@
-use Rattle.std.proofs.Common.{◌≡◌, List, sym, ◌∙◌, ap, subst, arith}
+use Rattle.std.proofs.Common.{◌≡◌, ◌≤◌, List, length, sym, ◌∙◌, ap, subst, arith}
 use Rattle.std.specs.declared.cmp.Ordering.TheVariants.{Less}
 use Rattle.saved_doc.specs.declared.doc.Row.{Row}
 use Rattle.doc_table.specs.RowLists.{IsRising, order, with_row}
@@ -7,10 +7,15 @@ use Rattle.doc_table.proofs.Live.{pairwise_live, length-live}
 use Rattle.doc_table.proofs.PageChanges.{full_page}
 use Rattle.doc_table.proofs.page.put_alone.Goals as goal
 
-pub put-requires-clause-rising : goal.put-requires-clause-rising
-put-requires-clause-rising c =
+pub place-place-requires : goal.place-place-requires
+place-place-requires c =
     let e : c.keep_live.new.rows ≡ live_rows c.args.held.now = c.keep_live.ensures ∙ ap (λ (v : List Row). live_from c.args.held.now.live 0 v) c.in-Some.ensures.value in
     subst IsRising (sym e) (pairwise_live (λ x y. order x.raw y.raw ≡ Less) c.args.held.now.live 0 (page_rows c.args.held.now) c.requires.rising)
+
+pub put-requires-clause-room : goal.put-requires-clause-room
+put-requires-clause-room c =
+    let e : c.keep_live.new.rows ≡ live_rows c.args.held.now = c.keep_live.ensures ∙ ap (λ (v : List Row). live_from c.args.held.now.live 0 v) c.in-Some.ensures.value in
+    subst (λ (v : List Row). length (with_row c.args.row v) ≤ 64) (sym e) c.requires.room
 
 pub returns-in-Ok-clause-told : goal.returns-in-Ok-clause-told
 returns-in-Ok-clause-told c =

@@ -4,8 +4,8 @@ use Rattle.doc_table.proofs.page.without_row.Goals as goal
 
 pub returns-in-Ok : goal.returns-in-Ok
 returns-in-Ok c =
-    clear_here c.args.held.now.live c.cleared.result c.args.raw.now (page_rows c.args.held.now) c.place.result c.in-Ok.at c.in-Ok.is
-    c.place.ensures c.requires.sound.1 c.cleared.ensures.same c.cleared.ensures.others
+    clear_here c.args.held.now.live c.cleared.result c.args.raw.now (page_rows c.args.held.now) c.args.place c.in-Ok.at c.in-Ok.is
+    c.requires.place c.requires.sound.1 c.cleared.ensures.same c.cleared.ensures.others
 
 pub returns-in-Err : goal.returns-in-Err
-returns-in-Err c = clear_gap c.args.held.now.live c.args.raw.now (page_rows c.args.held.now) c.place.result c.in-Err.field-0 c.in-Err.is c.place.ensures
+returns-in-Err c = clear_gap c.args.held.now.live c.args.raw.now (page_rows c.args.held.now) c.args.place c.in-Err.field-0 c.in-Err.is c.requires.place

@@ -12,33 +12,31 @@ rewritten-requires-clause-rising c = page_rising c.args.pages.now.items c.args.p
 
 pub of-requires-2 : goal.of-requires-2
 of-requires-2 c =
-    let n = c.if-rows-le64.false in
-    let v = ap length c.rows.ensures in
-    let l = ap length c.in_ok-right.ensures.lower in
-    let t = length-take-le 32 c.in_ok-rows.rows (omega arith) in
+    let n = c.if-len-le64.false in
+    let l = ap length c.in_ok-right.ensures.items in
+    let t = length-take-le 32 c.in_ok-rows.rows.items (omega arith) in
     omega arith
 
 pub of-requires-3 : goal.of-requires-3
 of-requires-3 c =
     let few = c.in_ok-rows.ensures.few in
-    let l = ap length c.in_ok-right.ensures.upper in
-    let d = length-drop 32 c.in_ok-rows.rows in
+    let l = ap length c.in_ok-right.ensures.tail in
+    let d = length-drop 32 c.in_ok-rows.rows.items in
     omega arith
 
-pub returns-then-rows-le64-clause-ok : goal.returns-then-rows-le64-clause-ok
-returns-then-rows-le64-clause-ok c =
+pub returns-then-len-le64-clause-ok : goal.returns-then-len-le64-clause-ok
+returns-then-len-le64-clause-ok c =
     let h = c.in_ok-pages.field-0 in
     let e : rows_of (h ∷ []) ≡ with_row c.args.row (live_rows c.index.result.now) = append-nil (live_rows h) ∙ c.in_ok-pages.ensures.live ∙ c.in_ok-rows.ensures.rows in
     ap rows_of (swapped_one c.args.pages.now.items c.args.p h c.requires.place.within) ∙ rows_put c.args.row c.args.pages.now.items c.args.p c.index.result.now (h ∷ []) c.requires.place c.index.ensures e
 
-pub returns-then-rows-le64-clause-pages : goal.returns-then-rows-le64-clause-pages
-returns-then-rows-le64-clause-pages c =
+pub returns-then-len-le64-clause-pages : goal.returns-then-len-le64-clause-pages
+returns-then-len-le64-clause-pages c =
     let h = c.in_ok-pages.field-0 in
     let l = ap length c.in_ok-pages.ensures.page in
     let e : all_rows (h ∷ []) ≡ with_row c.args.row (live_rows c.index.result.now) = append-nil (page_rows h) ∙ c.in_ok-pages.ensures.page ∙ c.in_ok-rows.ensures.rows in
     let some = c.in_ok-rows.ensures.some in
-    let n = c.if-rows-le64.true in
-    let v = ap length c.rows.ensures in
+    let n = c.if-len-le64.true in
     let m : IsMarked h.mark (page_rows h) = subst (IsMarked h.mark) (sym c.in_ok-pages.ensures.page) c.in_ok-pages.ensures.mark in
     let s : Each IsSound (h ∷ []) = ((omega (arith, some), omega arith, m), tt) in
     subst IsPages (sym (swapped_one c.args.pages.now.items c.args.p h c.requires.place.within)) (pages_put c.args.row c.args.pages.now.items c.args.p c.index.result.now (h ∷ []) c.requires.pages c.requires.place c.index.ensures s e)
@@ -47,9 +45,9 @@ pub returns-clause-ok : goal.returns-clause-ok
 returns-clause-ok c =
     let l = c.in_ok-left.left in
     let r = c.in_ok-right-2.right in
-    let a = c.in_ok-left.ensures.live ∙ c.in_ok-right.ensures.lower in
-    let b = append-nil (live_rows r) ∙ c.in_ok-right-2.ensures.live ∙ c.in_ok-right.ensures.upper in
-    let e : rows_of (l ∷ r ∷ []) ≡ with_row c.args.row (live_rows c.index.result.now) = (λ j. a j ++ b j) ∙ take-append-drop 32 c.in_ok-rows.rows ∙ c.in_ok-rows.ensures.rows in
+    let a = c.in_ok-left.ensures.live ∙ c.in_ok-right.ensures.items in
+    let b = append-nil (live_rows r) ∙ c.in_ok-right-2.ensures.live ∙ c.in_ok-right.ensures.tail in
+    let e : rows_of (l ∷ r ∷ []) ≡ with_row c.args.row (live_rows c.index.result.now) = (λ j. a j ++ b j) ∙ take-append-drop 32 c.in_ok-rows.rows.items ∙ c.in_ok-rows.ensures.rows in
     ap rows_of (ap (λ (t : List SharedPage). set t c.args.p l) c.in_ok-insert.ensures.items ∙ swapped_two c.args.pages.now.items c.args.p l r l c.requires.place.within)
     ∙ rows_put c.args.row c.args.pages.now.items c.args.p c.index.result.now (l ∷ r ∷ []) c.requires.place c.index.ensures e
 
@@ -57,15 +55,14 @@ pub returns-clause-pages : goal.returns-clause-pages
 returns-clause-pages c =
     let l = c.in_ok-left.left in
     let r = c.in_ok-right-2.right in
-    let a = c.in_ok-left.ensures.page ∙ c.in_ok-right.ensures.lower in
-    let b0 = c.in_ok-right-2.ensures.page ∙ c.in_ok-right.ensures.upper in
+    let a = c.in_ok-left.ensures.page ∙ c.in_ok-right.ensures.items in
+    let b0 = c.in_ok-right-2.ensures.page ∙ c.in_ok-right.ensures.tail in
     let b = append-nil (page_rows r) ∙ b0 in
-    let e : all_rows (l ∷ r ∷ []) ≡ with_row c.args.row (live_rows c.index.result.now) = (λ j. a j ++ b j) ∙ take-append-drop 32 c.in_ok-rows.rows ∙ c.in_ok-rows.ensures.rows in
+    let e : all_rows (l ∷ r ∷ []) ≡ with_row c.args.row (live_rows c.index.result.now) = (λ j. a j ++ b j) ∙ take-append-drop 32 c.in_ok-rows.rows.items ∙ c.in_ok-rows.ensures.rows in
     let some = c.in_ok-rows.ensures.few in
-    let n = c.if-rows-le64.false in
-    let v = ap length c.rows.ensures in
-    let t = length-take-le 32 c.in_ok-rows.rows (omega arith) in
-    let d = length-drop 32 c.in_ok-rows.rows in
+    let n = c.if-len-le64.false in
+    let t = length-take-le 32 c.in_ok-rows.rows.items (omega arith) in
+    let d = length-drop 32 c.in_ok-rows.rows.items in
     let la = ap length a in
     let lb = ap length b0 in
     let ml : IsMarked l.mark (page_rows l) = subst (IsMarked l.mark) (sym c.in_ok-left.ensures.page) c.in_ok-left.ensures.mark in
