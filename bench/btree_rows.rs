@@ -1,12 +1,16 @@
-//! `btree_rows ROWS TIMES`: what `store_bench creates ROWS TIMES` does, in plain Rust with
-//! `std::collections::BTreeMap` in place of an index. It prints the nanoseconds of processor time that
-//! the creates took. Linux on x86-64, for the clock of the thread's processor time.
+//! `btree_rows WORK FEW MANY TIMES`: the works `fills` and `creates` of `store_bench`, in plain Rust
+//! with `std::collections::BTreeMap` in place of an index. It prints the nanoseconds of processor time
+//! that the creates took on few rows and on many. Linux on x86-64, for the clock of the thread's
+//! processor time.
 use std::collections::btree_map::Entry;
 use std::collections::BTreeMap;
 use std::sync::Arc;
 
 /// What a small document takes.
 type Document = [u64; 8];
+
+/// How many creates are made ready at a time, and then timed.
+const LOT: usize = 100;
 
 #[derive(Default)]
 struct Table {
@@ -24,6 +28,29 @@ impl Table {
                 true
             }
         }
+    }
+
+    fn filled(rows: usize) -> Table {
+        let mut table = Table::default();
+        for place in 0..rows {
+            let (raw, document) = create_at(place);
+            assert!(table.create(raw, document));
+        }
+        table
+    }
+
+    /// Does so many creates from a place of the mixed order on, and tells the time that they took.
+    fn create_each(&mut self, first: usize, count: usize) -> u64 {
+        let mut took = 0;
+        for lot in (first..first + count).step_by(LOT) {
+            let creates: Vec<_> = (lot..lot + LOT).map(create_at).collect();
+            let start = spent();
+            for (raw, document) in creates {
+                assert!(self.create(raw, document));
+            }
+            took += spent() - start;
+        }
+        took
     }
 }
 
@@ -49,33 +76,22 @@ fn spent() -> u64 {
 }
 
 fn main() {
-    let words: Vec<usize> = std::env::args()
-        .skip(1)
-        .map(|word| word.parse().expect("a number"))
-        .collect();
-    let [rows, times] = words[..] else {
-        panic!("the words are ROWS TIMES")
+    let words: Vec<String> = std::env::args().skip(1).collect();
+    let [work, few, many, times] = &words[..] else {
+        panic!("the words are WORK FEW MANY TIMES")
     };
-    let mut tables: Vec<Table> = (0..times).map(|_| Table::default()).collect();
-    for table in &mut tables {
-        for place in 0..rows {
-            let (raw, document) = create_at(place);
-            assert!(table.create(raw, document));
-        }
+    let number = |word: &String| word.parse::<usize>().expect("a number");
+    let (few, many, times) = (number(few), number(many), number(times));
+    let (short_at_first, long_at_first) = match work.as_str() {
+        "fills" => (0, 0),
+        "creates" => (few, many),
+        _ => panic!("the works are fills and creates"),
+    };
+    let mut long = Table::filled(long_at_first);
+    let mut took = (0, 0);
+    for turn in 0..times / few {
+        took.1 += long.create_each(long_at_first + turn * few, few);
+        took.0 += Table::filled(short_at_first).create_each(short_at_first, few);
     }
-    // About a hundred creates at a time are made ready, and then timed.
-    let steps = (100 / times).max(1);
-    let mut took = 0;
-    for first in (rows..2 * rows).step_by(steps) {
-        let places = first..(first + steps).min(2 * rows);
-        let lot: Vec<_> = places
-            .flat_map(|place| (0..times).map(move |_| create_at(place)))
-            .collect();
-        let start = spent();
-        for (at, (raw, document)) in lot.into_iter().enumerate() {
-            assert!(tables[at % times].create(raw, document));
-        }
-        took += spent() - start;
-    }
-    eprintln!("{took}");
+    eprintln!("{} {}", took.0, took.1);
 }

@@ -30,23 +30,6 @@ one_more a b i rows x keep h e k =
     ∙ ap length (filter-append (is_after a) (live_from b 0 (take i rows)) (cond (bit_at b i == 1) (x ∷ []) []) ∙ ap (λ (t : List Row). f ++ t) (filter_one (is_after a) (bit_at b i == 1) x))
     ∙ length-append f c ∙ ap (λ (t : Bool). length f + length (cond t (x ∷ []) [])) (sym k)
 
-is_greater : (o : Ordering) → is_gt o ≡ true → o ≡ Greater
-is_greater Less e = absurd (cc)
-is_greater Equal e = absurd (cc)
-is_greater Greater e = refl
-
-after_rest : (a : Option (List ℕ)) (x : Row) (xs : List Row) → Each (λ y. order x.raw y.raw ≡ Less) xs → is_after a x ≡ true → Each (λ y. is_after a y ≡ true) xs
-after_rest None x xs s e = each_weaker (λ y. order x.raw y.raw ≡ Less) (λ y. is_after None y ≡ true) (λ y l. refl) xs s
-after_rest (Some r) x xs s e = each_weaker (λ y. order x.raw y.raw ≡ Less) (λ y. is_after (Some r) y ≡ true) (λ y l. ap is_gt (later_than_above x.raw r y.raw (is_greater (order x.raw r) e) l)) xs s
-
-after_all : (a : Option (List ℕ)) (rows : List Row) (x : Row) → IsRising rows → 0 < length rows → x ≡ get_or rows 0 x → is_after a x ≡ true → Each (λ y. is_after a y ≡ true) rows
-after_all a [] x s h e q = tt
-after_all a (y ∷ rows) x s h e q = let p : is_after a y ≡ true = ap (is_after a) (sym e) ∙ q in (p, after_rest a y rows s.0 p)
-
--- a page of which no row was taken out, and whose first row is above
-pub whole_page : (a : Option (List ℕ)) (rows : List Row) (x : Row) → IsRising rows → 0 < length rows → length rows ≤ 64 → x ≡ get_or rows 0 x → is_after a x ≡ true → length rows ≡ length (rows_after a (live_from (2 ^ 64 - 1) 0 rows))
-whole_page a rows x s h k e q = sym (ap (λ (t : List Row). length (rows_after a t)) (live_full 0 rows (omega arith)) ∙ ap length (filter_all (is_after a) rows (after_all a rows x s h e q)))
-
 -- no row before the page at which rows above begin
 pub none_before : (a : Option (List ℕ)) (ps : List SharedPage) (p : ℕ) → rows_after a (rows_of (drop p ps)) ≡ rows_after a (rows_of ps) → 0 ≡ length (rows_after a (rows_of (take p ps)))
 none_before a ps p e =

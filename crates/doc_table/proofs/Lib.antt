@@ -11,6 +11,7 @@ pub mod PageLists
 pub mod PageChanges
 pub mod Spots
 pub mod Readers
+pub mod Later
 pub mod Counts
 pub mod Cursor
 pub mod Entries

@@ -133,7 +133,3 @@ pub each_known : (P : Row → Type 0) (xs : List Row) (i : ℕ) (x : Row) → Ea
 each_known P [] i x w l e = absurd (omega arith)
 each_known P (y ∷ ys) zero x w l e = subst P (sym e) w.0
 each_known P (y ∷ ys) (suc i) x w l e = each_known P ys i x w.1 (omega arith) e
-
--- what is said of the item at an index
-pub read_known : (P : Row → Type 0) (xs ys : List Row) (i : ℕ) (x : Row) → xs ≡ ys → i < length ys → x ≡ get_or ys i x → IfSome (slice_get xs i) P → P x
-read_known P xs ys i x q l e k = subst (λ (o : Option Row). IfSome o P) (slice_get_read ys (length ys) i x refl l e) (subst (λ (t : List Row). IfSome (slice_get t i) P) q k)

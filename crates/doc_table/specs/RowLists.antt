@@ -61,6 +61,10 @@ abbrev pub is_after : Option (List ℕ) → Row → Bool
 is_after None x = true
 is_after (Some r) x = is_gt (order x.raw r)
 
+-- all rows are above a raw id, if one is given
+abbrev pub IsAllAfter : Option (List ℕ) → List Row → Type 0
+IsAllAfter r = Each (λ x. is_after r x ≡ true)
+
 abbrev pub rows_after : Option (List ℕ) → List Row → List Row
 rows_after r = filter (is_after r)
 

@@ -1,7 +1,7 @@
-ghost use Rattle.std.specs.Prelude.{◌≡◌, ◌==◌, ◌<◌, ◌≤◌, ◌++◌, [], ◌∷◌, length, take, drop, OnOk, IfOk, ◌&&◌, ◌^◌, ◌+◌, if◌then◌else◌};
+ghost use Rattle.std.specs.Prelude.{◌≡◌, ◌==◌, ◌<◌, ◌≤◌, ◌++◌, [], ◌∷◌, length, take, drop, OnOk, IfOk, false, ◌&&◌, ◌^◌, ◌+◌, if◌then◌else◌};
 ghost use Rattle.std.specs.Option.{option_copied};
 ghost use Rattle.std.specs.Int.{bit_at};
-ghost use Rattle.doc_table.specs.RowLists.{IsRising, rows_after, is_after, counted_from, Each};
+ghost use Rattle.doc_table.specs.RowLists.{IsRising, rows_after, is_after, counted_from, Each, IsAllAfter};
 ghost use Rattle.doc_table.specs.Pages.{page_rows, live_rows, all_rows, rows_of, IsPages, IsSound};
 
 use crate::mark::Mark;
@@ -20,8 +20,8 @@ pub fn keeps(live: u64, at: usize, row: &SharedRow, after: Option<&str>) -> bool
     is_live(live, at) && is_after(row.row(), after)
 }
 
-/// Pushes copies of a page's rows above a raw id, up to a number of rows.
-fn push_page(
+/// Pushes copies of a page's rows above a raw id, up to a number of rows, row by row.
+fn push_each(
     out: &mut Vec<Row>,
     held: &SharedPage,
     after: Option<&str>,
@@ -39,10 +39,32 @@ fn push_page(
     Ok(())
 }
 
-/// The first page that can have rows above a raw id.
+/// Pushes copies of a page's rows above a raw id, up to a number of rows. Those of a page behind the
+/// first are all above it, and not compared.
+fn push_page(
+    out: &mut Vec<Row>,
+    held: &SharedPage,
+    first: bool,
+    after: Option<&str>,
+    n: u64,
+) -> Result<(), AllocError>
+    requires sound { IsSound held.now }
+    requires few { length out.old.items ≤ n }
+    requires later { first ≡ false → IsAllAfter (option_copied after) (live_rows held.now) }
+    ensures { OnOk result (out.new.items ≡ take n (out.old.items ++ rows_after (option_copied after.entry) (live_rows held.now))) }
+{
+    if first {
+        push_each(out, held, after, n)
+    } else {
+        push_each(out, held, None, n)
+    }
+}
+
+/// The first page that can have rows above a raw id. All rows of the pages behind it are above it.
 pub fn start_of(pages: &[SharedPage], after: Option<&str>) -> usize
     requires { IsPages pages.now }
     ensures within { result ≤ length pages.now }
+    ensures later { IsAllAfter (option_copied after.entry) (rows_of (drop (result + 1) pages.now)) }
     ensures rest { rows_after (option_copied after.entry) (rows_of (drop result pages.now)) ≡ rows_after (option_copied after.entry) (rows_of pages.now) }
 {
     match after {
@@ -56,14 +78,15 @@ pub fn start_of(pages: &[SharedPage], after: Option<&str>) -> usize
     }
 }
 
-/// Copies of the first rows above a raw id.
+/// Copies of the first rows above a raw id, which all rows behind the first page are.
 fn take_pages(
     alloc: Global,
     pages: &[SharedPage],
     after: Option<&str>,
     n: u64,
 ) -> Result<Vec<Row>, AllocError>
-    requires { Each IsSound pages.now }
+    requires sound { Each IsSound pages.now }
+    requires later { IsAllAfter (option_copied after) (rows_of (drop 1 pages.now)) }
     ensures { IfOk result (λ v. v.items ≡ take n (rows_after (option_copied after.entry) (rows_of pages.now))) }
 {
     let mut out = Vec::new(alloc);
@@ -71,7 +94,7 @@ fn take_pages(
         if out.len() as u64 >= n {
             return Ok(out);
         }
-        push_page(&mut out, &pages[i], after, n)?;
+        push_page(&mut out, &pages[i], i == 0, after, n)?;
     }
     Ok(out)
 }

@@ -1,11 +1,10 @@
-ghost use Rattle.std.specs.Prelude.{◌≡◌, ◌<◌, ◌^◌, length};
+ghost use Rattle.std.specs.Prelude.{◌≡◌, ◌<◌, ◌^◌, length, false};
 ghost use Rattle.std.specs.Option.{option_copied};
-ghost use Rattle.doc_table.specs.RowLists.{IsRising, rows_after};
-ghost use Rattle.doc_table.specs.Pages.{page_rows, live_rows, rows_of, IsPages, IsSound};
+ghost use Rattle.doc_table.specs.RowLists.{rows_after, IsAllAfter};
+ghost use Rattle.doc_table.specs.Pages.{live_rows, rows_of, IsPages, IsSound};
 
 use crate::copies::{keeps, start_of};
 use crate::page::SharedPage;
-use crate::place::is_after;
 
 /// How many live rows of a page are above a raw id, row by row.
 fn count_each(held: &SharedPage, after: Option<&str>) -> u64
@@ -22,18 +21,28 @@ fn count_each(held: &SharedPage, after: Option<&str>) -> u64
     count
 }
 
-/// How many live rows of a page are above a raw id: all of them where none was taken out and the
-/// first is above it.
-fn count_in(held: &SharedPage, after: Option<&str>) -> u64
+/// How many rows of a page are live. None of them is looked at where none was taken out.
+fn count_live(held: &SharedPage) -> u64
+    requires { IsSound held.now }
+    ensures { result ≡ length (live_rows held.now) }
+{
+    if held.live == u64::MAX {
+        return held.rows().len() as u64;
+    }
+    count_each(held, None)
+}
+
+/// How many live rows of a page are above a raw id. Those of a page behind the first all are.
+fn count_in(held: &SharedPage, first: bool, after: Option<&str>) -> u64
     requires sound { IsSound held.now }
-    requires rising { IsRising (page_rows held.now) }
+    requires later { first ≡ false → IsAllAfter (option_copied after) (live_rows held.now) }
     ensures { result ≡ length (rows_after (option_copied after.entry) (live_rows held.now)) }
 {
-    let rows = held.rows();
-    if held.live == u64::MAX && is_after(rows[0].row(), after) {
-        return rows.len() as u64;
+    if first {
+        count_each(held, after)
+    } else {
+        count_live(held)
     }
-    count_each(held, after)
 }
 
 /// How many rows are above a raw id, or how many there are.
@@ -45,7 +54,7 @@ pub fn count_above(pages: &[SharedPage], after: Option<&str>) -> u64
     let start = start_of(pages, after);
     let mut count = 0;
     for i in start..pages.len() {
-        count += count_in(&pages[i], after);
+        count += count_in(&pages[i], i == start, after);
     }
     count
 }

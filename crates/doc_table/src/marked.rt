@@ -116,13 +116,12 @@ impl MarkedRows {
     }
 
     /// Takes the rows from an index on out.
-    pub fn split_off(&mut self, alloc: Global, at: usize) -> Result<MarkedRows, AllocError>
+    pub fn split_off(&mut self, at: usize) -> Result<MarkedRows, AllocError>
         requires { at ≤ length self.old }
         ensures lower { OnOk result (self.new ≡ take at self.old) }
         ensures upper { IfOk result (λ upper. upper ≡ drop at self.old) }
         ensures err { OnErr result (self.new ≡ self.old) }
     {
-        let _ = alloc;
         split_all(&mut self.rows, &mut self.prefix, &mut self.marks, at)
     }
 }

@@ -294,7 +294,7 @@ pub fn upper_half(alloc: Global, held: &mut SharedPage) -> Result<Option<SharedP
     let Some(rows) = Arc::get_mut(&mut held.page) else {
         return Ok(None);
     };
-    match rows.split_off(alloc, 32) {
+    match rows.split_off(32) {
         Err(refused) => Err(refused),
         Ok(tail) => {
             let mark = tail.first_mark();

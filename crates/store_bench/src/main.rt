@@ -1,9 +1,11 @@
 #![tactic(auto)]
-//! `store_bench WORK ROWS TIMES`: makes an index of that many rows by creates in a mixed order of raw
-//! ids, each with a document of its own, and then does the work that many times. It prints how many
-//! answers were as they had to be, and to standard error the nanoseconds of processor time that the
-//! store took for them. WORK is `gets`, `pits`, `reads` or `bulks`; or `creates`, which makes that
-//! many indices of so many rows, and as many creates again, which go to the indices in turn.
+//! `store_bench WORK FEW MANY TIMES`: does the work so many times on an index of few rows and, in turn
+//! with it, on one of many. It prints how many answers were as they had to be, and to standard error
+//! the nanoseconds of processor time that the store took on the few rows and on the many. WORK is
+//! `fills` (creates that fill the index from nothing), `creates` (into the index as it is filled),
+//! `gets`, `pits`, `reads`, or `bulks` (as many creates as FEW says into the index of many rows, one
+//! by one and then as a bulk). The rows come in a mixed order of raw ids, each with a document of its
+//! own.
 mod filling;
 mod timing;
 mod working;
@@ -11,14 +13,17 @@ mod working;
 use anyhow::{Context, Result, bail, ensure};
 use std::env;
 use timing::Spent;
-use working::{bulks, creates, gets, pits, reads};
+use working::{Sides, Sizes, bulks, creates, fills, gets, pits, reads};
 
 /// The most rows, and the most times.
 const MOST: u64 = 400_000;
 
 fn number(word: &str) -> Result<u64> {
-    word.parse::<u64>()
-        .context(format_args!("reading {word:?}"))
+    let number = word
+        .parse::<u64>()
+        .context(format_args!("reading {word:?}"))?;
+    ensure!(number <= MOST, "{number} is more than {MOST}");
+    Ok(number)
 }
 
 fn main(rt: HostRuntime) -> Result<()> {
@@ -26,26 +31,30 @@ fn main(rt: HostRuntime) -> Result<()> {
     for word in env::args(&rt)? {
         words.push(word)?;
     }
-    let [_, work, rows, times] = words.as_slice() else {
-        bail!("the words are WORK ROWS TIMES");
+    let [_, work, few, many, times] = words.as_slice() else {
+        bail!("the words are WORK FEW MANY TIMES");
     };
-    let rows = number(rows.as_str())?;
-    let times = number(times.as_str())?;
-    ensure!(
-        rows <= MOST && times <= MOST,
-        "at most {MOST} rows and times"
-    );
-    let mut spent = Spent::none();
+    let sizes = Sizes {
+        few: number(few.as_str())?,
+        many: number(many.as_str())?,
+        times: number(times.as_str())?,
+    };
+    let mut sides = Sides {
+        few: Spent::none(),
+        many: Spent::none(),
+    };
     let done = match work.as_str() {
-        "creates" => creates(&rt, rt.alloc(), &mut spent, rows, times)?,
-        "gets" => gets(&rt, rt.alloc(), &mut spent, rows, times)?,
-        "pits" => pits(&rt, rt.alloc(), &mut spent, rows, times)?,
-        "reads" => reads(&rt, rt.alloc(), &mut spent, rows, times)?,
-        "bulks" => bulks(&rt, rt.alloc(), &mut spent, rows, times)?,
+        "fills" => fills(&rt, rt.alloc(), &mut sides, sizes)?,
+        "creates" => creates(&rt, rt.alloc(), &mut sides, sizes)?,
+        "gets" => gets(&rt, rt.alloc(), &mut sides, sizes)?,
+        "pits" => pits(&rt, rt.alloc(), &mut sides, sizes)?,
+        "reads" => reads(&rt, rt.alloc(), &mut sides, sizes)?,
+        "bulks" => bulks(&rt, rt.alloc(), &mut sides, sizes)?,
         word => bail!("no work {word:?}"),
     };
-    let nanoseconds = spent.nanoseconds();
-    println!(rt; "{work}: rows {rows}, times {times}, as they had to be {done}")?;
-    eprintln!(rt; "{nanoseconds}")?;
+    println!(rt; "{work}: as they had to be {done}")?;
+    let few = sides.few.nanoseconds();
+    let many = sides.many.nanoseconds();
+    eprintln!(rt; "{few} {many}")?;
     Ok(())
 }

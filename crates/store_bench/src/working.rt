@@ -1,4 +1,6 @@
-//! The work that is measured. Each call counts the answers that are as they have to be.
+//! The works. Each is done side by side on an index of few rows and on one of many, in turns of about
+//! a millisecond, so that whatever else the machine does meets both. Each call counts the answers that
+//! are as they have to be.
 use crate::filling::{INDEX, creates_from, filled, raw_at, write_all};
 use crate::timing::Spent;
 use anyhow::Result;
@@ -8,6 +10,29 @@ use index_store::{IndexStore, Served};
 use plain_data::{List, Text};
 use std::alloc::{AllocError, Global};
 use std::time::CpuClock;
+
+/// How many rows the two indices have, and how often a work is done on each.
+#[derive(Clone, Copy, Debug)]
+pub struct Sizes {
+    pub few: u64,
+    pub many: u64,
+    pub times: u64,
+}
+
+/// The processor time that a work took on few rows and on many.
+#[derive(Clone, Copy, Debug)]
+pub struct Sides {
+    pub few: Spent,
+    pub many: Spent,
+}
+
+/// How many requests are made ready at a time, and then timed.
+const LOT: u64 = 100;
+
+/// How many whole turns of so many there are.
+fn turns(times: u64, turn: u64) -> u64 {
+    times.checked_div(turn).unwrap_or(0)
+}
 
 /// Whether a bulk of so many writes did all of them.
 fn wrote_all(served: &Served, count: usize) -> bool {
@@ -26,22 +51,110 @@ fn is_written(item: &Item) -> bool {
     }
 }
 
-/// Bulks of 1,000 creates, behind so many rows.
-pub fn bulks(
+/// A lot of bulks of one create each, from a place of the mixed order on.
+fn lot_of_creates(alloc: Global, place: u64) -> Result<Vec<List<Write>>, AllocError> {
+    let mut bulks = Vec::new(alloc);
+    for step in 0..LOT {
+        bulks.push(creates_from(alloc, place.wrapping_add(step), 1)?)?;
+    }
+    Ok(bulks)
+}
+
+/// Does bulks of one create each.
+fn write_each(store: &mut IndexStore, bulks: Vec<List<Write>>) -> Result<u64, AllocError> {
+    let mut done = 0u64;
+    for writes in bulks {
+        if wrote_all(&write_all(store, writes)?, 1) {
+            done = done.wrapping_add(1);
+        }
+    }
+    Ok(done)
+}
+
+/// Creates of one row each, so many in whole lots, from a place of the mixed order on.
+fn create_each(
     clock: &impl CpuClock,
     alloc: Global,
     spent: &mut Spent,
-    rows: u64,
-    times: u64,
+    store: &mut IndexStore,
+    place: u64,
+    count: u64,
 ) -> Result<u64> {
-    let mut store = filled(alloc, rows)?;
     let mut done = 0u64;
-    for time in 0..times {
-        let writes = creates_from(alloc, rows.wrapping_add(time.wrapping_mul(1_000)), 1_000)?;
-        let count = writes.len();
+    for lot in 0..turns(count, LOT) {
+        let bulks = lot_of_creates(alloc, place.wrapping_add(lot.wrapping_mul(LOT)))?;
         spent.begin(clock)?;
-        let served = write_all(&mut store, writes)?;
+        let right = write_each(store, bulks)?;
         spent.end(clock)?;
+        done = done.wrapping_add(right);
+    }
+    Ok(done)
+}
+
+/// Creates into one index that has `many` rows at first, and in turn with it, for each `sizes.few` of
+/// them, as many into a new index that has `few` at first.
+fn grow(
+    clock: &impl CpuClock,
+    alloc: Global,
+    sides: &mut Sides,
+    sizes: Sizes,
+    few: u64,
+    many: u64,
+) -> Result<u64> {
+    let mut long = filled(alloc, many)?;
+    let mut done = 0u64;
+    for turn in 0..turns(sizes.times, sizes.few) {
+        let place = many.wrapping_add(turn.wrapping_mul(sizes.few));
+        let right = create_each(clock, alloc, &mut sides.many, &mut long, place, sizes.few)?;
+        done = done.wrapping_add(right);
+        let mut short = filled(alloc, few)?;
+        let right = create_each(clock, alloc, &mut sides.few, &mut short, few, sizes.few)?;
+        done = done.wrapping_add(right);
+    }
+    Ok(done)
+}
+
+/// Creates that fill an index from nothing.
+pub fn fills(
+    clock: &impl CpuClock,
+    alloc: Global,
+    sides: &mut Sides,
+    sizes: Sizes,
+) -> Result<u64> {
+    grow(clock, alloc, sides, sizes, 0, 0)
+}
+
+/// Creates into an index that is filled already.
+pub fn creates(
+    clock: &impl CpuClock,
+    alloc: Global,
+    sides: &mut Sides,
+    sizes: Sizes,
+) -> Result<u64> {
+    grow(clock, alloc, sides, sizes, sizes.few, sizes.many)
+}
+
+/// Creates into the index of many rows alone: as many as the other one would have, by one each and in
+/// turn with that as one bulk. The times of the single ones stand on the side of few rows.
+pub fn bulks(
+    clock: &impl CpuClock,
+    alloc: Global,
+    sides: &mut Sides,
+    sizes: Sizes,
+) -> Result<u64> {
+    let mut store = filled(alloc, sizes.many)?;
+    let mut place = sizes.many;
+    let mut done = 0u64;
+    for _ in 0..sizes.times {
+        let right = create_each(clock, alloc, &mut sides.few, &mut store, place, sizes.few)?;
+        done = done.wrapping_add(right);
+        place = place.wrapping_add(sizes.few);
+        let writes = creates_from(alloc, place, sizes.few)?;
+        place = place.wrapping_add(sizes.few);
+        let count = writes.len();
+        sides.many.begin(clock)?;
+        let served = write_all(&mut store, writes)?;
+        sides.many.end(clock)?;
         if wrote_all(&served, count) {
             done = done.wrapping_add(1);
         }
@@ -49,89 +162,10 @@ pub fn bulks(
     Ok(done)
 }
 
-/// So many stores of one index with so many rows.
-fn all_filled(alloc: Global, rows: u64, times: u64) -> Result<Vec<IndexStore>, AllocError> {
-    let mut stores = Vec::new(alloc);
-    for _ in 0..times {
-        stores.push(filled(alloc, rows)?)?;
-    }
-    Ok(stores)
-}
-
-/// Pushes a bulk of one create for each store, with a document of its own.
-fn push_turn(
-    alloc: Global,
-    bulks: &mut Vec<List<Write>>,
-    place: u64,
-    times: u64,
-) -> Result<(), AllocError> {
-    for _ in 0..times {
-        bulks.push(creates_from(alloc, place, 1)?)?;
-    }
-    Ok(())
-}
-
-/// So many turns of bulks of one create, one for each store, from a place of the mixed order on.
-fn turns(
-    alloc: Global,
-    place: u64,
-    count: u64,
-    times: u64,
-) -> Result<Vec<List<Write>>, AllocError> {
-    let mut bulks = Vec::new(alloc);
-    for step in 0..count {
-        push_turn(alloc, &mut bulks, place.wrapping_add(step), times)?;
-    }
-    Ok(bulks)
-}
-
-/// Does bulks of one create each, on the stores in turn.
-fn write_in_turn(stores: &mut [IndexStore], bulks: Vec<List<Write>>) -> Result<u64, AllocError> {
-    let mut done = 0u64;
-    let mut at = 0usize;
-    for writes in bulks {
-        if at >= stores.len() {
-            at = 0;
-        }
-        if let Some(store) = stores.get_mut(at) {
-            if wrote_all(&write_all(store, writes)?, 1) {
-                done = done.wrapping_add(1);
-            }
-        }
-        at = at.wrapping_add(1);
-    }
-    Ok(done)
-}
-
-/// Stores of one index with so many rows, so many of them, and as many creates of one row again, on
-/// the stores in turn. About a hundred at a time are made ready, and then timed.
-pub fn creates(
-    clock: &impl CpuClock,
-    alloc: Global,
-    spent: &mut Spent,
-    rows: u64,
-    times: u64,
-) -> Result<u64> {
-    let mut stores = all_filled(alloc, rows, times)?;
-    let steps = 100u64.checked_div(times).unwrap_or(1).max(1);
-    let mut done = 0u64;
-    let mut more = 0;
-    while more < rows {
-        let count = steps.min(rows - more);
-        let bulks = turns(alloc, rows.wrapping_add(more), count, times)?;
-        spent.begin(clock)?;
-        let right = write_in_turn(stores.as_mut_slice(), bulks)?;
-        spent.end(clock)?;
-        done = done.wrapping_add(right);
-        more += count;
-    }
-    Ok(done)
-}
-
-/// Lists of one raw id each, of the rows from a place of the mixed order on.
-fn wanted(alloc: Global, rows: u64, place: u64, count: u64) -> Result<Vec<List<Text>>, AllocError> {
+/// A lot of lists of one raw id each, of the rows from a place of the mixed order on.
+fn lot_of_raws(alloc: Global, rows: u64, place: u64) -> Result<Vec<List<Text>>, AllocError> {
     let mut lists = Vec::new(alloc);
-    for step in 0..count {
+    for step in 0..LOT {
         let mut raws = List::new(alloc);
         let at = place.wrapping_add(step).checked_rem(rows).unwrap_or(0);
         raws.push(raw_at(alloc, at)?)?;
@@ -153,56 +187,81 @@ fn get_each(store: &mut IndexStore, lists: Vec<List<Text>>) -> Result<u64, Alloc
     Ok(done)
 }
 
-/// Gets of one row each. A hundred at a time are made ready, and then timed.
-pub fn gets(
+/// Ten lots of gets of one row each.
+fn get_lots(
     clock: &impl CpuClock,
     alloc: Global,
     spent: &mut Spent,
+    store: &mut IndexStore,
     rows: u64,
-    times: u64,
+    place: u64,
 ) -> Result<u64> {
-    let mut store = filled(alloc, rows)?;
     let mut done = 0u64;
-    let mut asked = 0;
-    while asked < times {
-        let count = 100.min(times - asked);
-        let lists = wanted(alloc, rows, asked, count)?;
+    for lot in 0..10u64 {
+        let lists = lot_of_raws(alloc, rows, place.wrapping_add(lot.wrapping_mul(LOT)))?;
         spent.begin(clock)?;
-        let right = get_each(&mut store, lists)?;
+        let right = get_each(store, lists)?;
         spent.end(clock)?;
         done = done.wrapping_add(right);
-        asked += count;
     }
     Ok(done)
 }
 
-/// Points in time, each opened and closed.
-pub fn pits(
-    clock: &impl CpuClock,
-    alloc: Global,
-    spent: &mut Spent,
-    rows: u64,
-    times: u64,
-) -> Result<u64> {
-    let mut store = filled(alloc, rows)?;
-    spent.begin(clock)?;
-    let done = open_and_close(&mut store, times)?;
-    spent.end(clock)?;
+/// Gets of one row each.
+pub fn gets(clock: &impl CpuClock, alloc: Global, sides: &mut Sides, sizes: Sizes) -> Result<u64> {
+    let mut short = filled(alloc, sizes.few)?;
+    let mut long = filled(alloc, sizes.many)?;
+    let mut done = 0u64;
+    for turn in 0..turns(sizes.times, 10 * LOT) {
+        let place = turn.wrapping_mul(10 * LOT);
+        let right = get_lots(clock, alloc, &mut sides.many, &mut long, sizes.many, place)?;
+        done = done.wrapping_add(right);
+        let right = get_lots(clock, alloc, &mut sides.few, &mut short, sizes.few, place)?;
+        done = done.wrapping_add(right);
+    }
     Ok(done)
 }
 
-/// Opens and closes a point in time, so many times.
-fn open_and_close(store: &mut IndexStore, times: u64) -> Result<u64, AllocError> {
+/// A point in time of the index, if the store can open one more.
+fn open(store: &mut IndexStore) -> Result<Option<u64>, AllocError> {
+    if store.opened() >= 1 << 62 {
+        return Ok(None);
+    }
+    match store.open_pit(INDEX)? {
+        Served::Pit(pit) => Ok(Some(pit)),
+        _ => Ok(None),
+    }
+}
+
+/// Opens and closes a lot of points in time.
+fn open_and_close(
+    clock: &impl CpuClock,
+    spent: &mut Spent,
+    store: &mut IndexStore,
+) -> Result<u64> {
     let mut done = 0u64;
-    for _ in 0..times {
-        if store.opened() >= 1 << 62 {
-            return Ok(done);
-        }
-        if let Served::Pit(pit) = store.open_pit(INDEX)? {
+    spent.begin(clock)?;
+    for _ in 0..LOT {
+        if let Some(pit) = open(store)? {
             if let Served::Done = store.close_pit(pit)? {
                 done = done.wrapping_add(1);
             }
         }
+    }
+    spent.end(clock)?;
+    Ok(done)
+}
+
+/// Points in time, each opened and closed.
+pub fn pits(clock: &impl CpuClock, alloc: Global, sides: &mut Sides, sizes: Sizes) -> Result<u64> {
+    let mut short = filled(alloc, sizes.few)?;
+    let mut long = filled(alloc, sizes.many)?;
+    let mut done = 0u64;
+    for _ in 0..turns(sizes.times, LOT) {
+        let right = open_and_close(clock, &mut sides.many, &mut long)?;
+        done = done.wrapping_add(right);
+        let right = open_and_close(clock, &mut sides.few, &mut short)?;
+        done = done.wrapping_add(right);
     }
     Ok(done)
 }
@@ -225,42 +284,44 @@ fn from_the_middle(alloc: Global) -> Result<Query, AllocError> {
     })
 }
 
-/// Reads of 1,000 rows from the middle of a point in time.
-pub fn reads(
-    clock: &impl CpuClock,
-    alloc: Global,
-    spent: &mut Spent,
-    rows: u64,
-    times: u64,
-) -> Result<u64> {
-    let mut store = filled(alloc, rows)?;
-    if store.opened() >= 1 << 62 {
-        return Ok(0);
-    }
-    let Served::Pit(pit) = store.open_pit(INDEX)? else {
-        return Ok(0);
-    };
-    let query = from_the_middle(alloc)?;
-    spent.begin(clock)?;
-    let done = read_again(&mut store, pit, &query, times)?;
-    spent.end(clock)?;
-    Ok(done)
-}
-
-/// Reads a point in time, so many times.
+/// Reads a point in time twenty times.
 fn read_again(
+    clock: &impl CpuClock,
+    spent: &mut Spent,
     store: &mut IndexStore,
     pit: u64,
     query: &Query,
-    times: u64,
-) -> Result<u64, AllocError> {
+) -> Result<u64> {
     let mut done = 0u64;
-    for _ in 0..times {
+    spent.begin(clock)?;
+    for _ in 0..20 {
         if let Served::Rows(page) = store.read_pit(pit, query)? {
             if page.rows.len() > 0 {
                 done = done.wrapping_add(1);
             }
         }
+    }
+    spent.end(clock)?;
+    Ok(done)
+}
+
+/// Reads of 1,000 rows from the middle of a point in time.
+pub fn reads(clock: &impl CpuClock, alloc: Global, sides: &mut Sides, sizes: Sizes) -> Result<u64> {
+    let mut short = filled(alloc, sizes.few)?;
+    let mut long = filled(alloc, sizes.many)?;
+    let Some(short_pit) = open(&mut short)? else {
+        return Ok(0);
+    };
+    let Some(long_pit) = open(&mut long)? else {
+        return Ok(0);
+    };
+    let query = from_the_middle(alloc)?;
+    let mut done = 0u64;
+    for _ in 0..turns(sizes.times, 20) {
+        let right = read_again(clock, &mut sides.many, &mut long, long_pit, &query)?;
+        done = done.wrapping_add(right);
+        let right = read_again(clock, &mut sides.few, &mut short, short_pit, &query)?;
+        done = done.wrapping_add(right);
     }
     Ok(done)
 }

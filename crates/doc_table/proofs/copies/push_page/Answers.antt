@@ -1,11 +1,14 @@
-use Rattle.std.proofs.Common.{[], ◌∷◌, ◌++◌, take, if◌then◌else◌, ◌∙◌, ap}
+use Rattle.std.proofs.Common.{◌≡◌, ◌++◌, List, take, OnOk, sym, ◌∙◌, subst}
 use Rattle.std.specs.Option.{option_copied}
 use Rattle.saved_doc.specs.declared.doc.Row.{Row}
-use Rattle.doc_table.proofs.Readers.{page_more}
+use Rattle.doc_table.specs.RowLists.{is_after}
+use Rattle.doc_table.specs.Pages.{live_rows}
+use Rattle.doc_table.proofs.Order.{filter_all}
+use Rattle.doc_table.proofs.Later.{none_after}
 use Rattle.doc_table.proofs.copies.push_page.Goals as goal
 
-pub loop-i-preserved : goal.loop-i-preserved
-loop-i-preserved c =
-    page_more (option_copied c.args.after) c.args.n c.args.held.now.live c.loop-i.i c.rows-rows.result.now c.args.out.now.items c.loop-i.out.items c.push_if.new.out.items c.index-rows-i.result c.keeps.result
-    c.loop-i-test.true c.index-rows-i.is c.keeps.ensures c.loop-i.invariant
-    (c.in_ok-push_if.ensures ∙ ap (λ (y : Row). take c.args.n (c.loop-i.out.items ++ (if c.keeps.result then y ∷ [] else []))) c.row.ensures)
+pub returns-else-first : goal.returns-else-first
+returns-else-first c =
+    let rows : List Row = live_rows c.args.held.now in
+    let e = none_after rows ∙ sym (filter_all (is_after (option_copied c.args.after)) rows (c.requires.later c.if-first.false)) in
+    subst (λ (t : List Row). OnOk c.push_each-else-first.result (c.push_each-else-first.new.out.items ≡ take c.args.n (c.args.out.now.items ++ t))) e c.push_each-else-first.ensures
