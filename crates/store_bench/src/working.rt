@@ -115,12 +115,7 @@ fn grow(
 }
 
 /// Creates that fill an index from nothing.
-pub fn fills(
-    clock: &impl CpuClock,
-    alloc: Global,
-    sides: &mut Sides,
-    sizes: Sizes,
-) -> Result<u64> {
+pub fn fills(clock: &impl CpuClock, alloc: Global, sides: &mut Sides, sizes: Sizes) -> Result<u64> {
     grow(clock, alloc, sides, sizes, 0, 0)
 }
 
@@ -136,12 +131,7 @@ pub fn creates(
 
 /// Creates into the index of many rows alone: as many as the other one would have, by one each and in
 /// turn with that as one bulk. The times of the single ones stand on the side of few rows.
-pub fn bulks(
-    clock: &impl CpuClock,
-    alloc: Global,
-    sides: &mut Sides,
-    sizes: Sizes,
-) -> Result<u64> {
+pub fn bulks(clock: &impl CpuClock, alloc: Global, sides: &mut Sides, sizes: Sizes) -> Result<u64> {
     let mut store = filled(alloc, sizes.many)?;
     let mut place = sizes.many;
     let mut done = 0u64;
@@ -234,11 +224,7 @@ fn open(store: &mut IndexStore) -> Result<Option<u64>, AllocError> {
 }
 
 /// Opens and closes a lot of points in time.
-fn open_and_close(
-    clock: &impl CpuClock,
-    spent: &mut Spent,
-    store: &mut IndexStore,
-) -> Result<u64> {
+fn open_and_close(clock: &impl CpuClock, spent: &mut Spent, store: &mut IndexStore) -> Result<u64> {
     let mut done = 0u64;
     spent.begin(clock)?;
     for _ in 0..LOT {
