@@ -1,19 +1,14 @@
 -- How many rows are above a raw id.
-use Rattle.std.proofs.Common.{◌≡◌, ℕ, ◌+◌, ◌-◌, ◌^◌, ◌<◌, ◌≤◌, suc, Bool, true, false, cond, ◌&&◌, List, [], ◌∷◌, ◌++◌, length, take, drop, get_or, Option, Some, None, refl, sym, ◌∙◌, ap, arith, length-append}
+use Rattle.std.proofs.Common.{◌≡◌, ℕ, ◌+◌, ◌<◌, ◌≤◌, suc, Bool, true, false, cond, ◌&&◌, List, [], ◌∷◌, ◌++◌, length, take, drop, get_or, Option, refl, sym, ◌∙◌, ap, arith, length-append}
 use Rattle.std.specs.Prelude.{◌==◌}
 use Rattle.std.specs.Int.{bit_at}
 use Rattle.std.specs.List.{filter}
-use Rattle.std.specs.Ordering.{is_gt}
 use Rattle.std.proofs.lemmas.List.Elements.{filter-append}
-use Rattle.std.specs.declared.cmp.Ordering.{Ordering}
-use Rattle.std.specs.declared.cmp.Ordering.TheVariants.{Less, Equal, Greater}
 use Rattle.saved_doc.specs.declared.doc.Row.{Row}
-use Rattle.doc_table.specs.RowLists.{Each, IsRising, order, rows_after, is_after}
+use Rattle.doc_table.specs.RowLists.{rows_after, is_after}
 use Rattle.doc_table.specs.declared.page.SharedPage.{SharedPage}
 use Rattle.doc_table.specs.Pages.{live_from, live_rows, rows_of}
-use Rattle.doc_table.proofs.Order.{filter_all, each_weaker}
-use Rattle.doc_table.proofs.Live.{live_more, live_full, length-live}
-use Rattle.doc_table.proofs.Places.{later_than_above}
+use Rattle.doc_table.proofs.Live.{live_more, length-live}
 use Rattle.doc_table.proofs.Readers.{rows_more, rows_rest, page_fits, length-take-bound}
 
 filter_one : (p : Row → Bool) (t : Bool) (x : Row) → filter p (cond t (x ∷ []) []) ≡ cond (t && p x) (x ∷ []) []
