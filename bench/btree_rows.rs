@@ -1,5 +1,5 @@
-//! `btree_rows WORK FEW MANY TIMES`: the works `fills` and `creates` of `store_bench`, in plain Rust
-//! with `std::collections::BTreeMap` in place of an index. It prints the nanoseconds of processor time
+//! `btree_rows WORK FEW MANY TIMES`: the works `fills`, `creates` and `doubles` of `store_bench`, in plain
+//! Rust with `std::collections::BTreeMap` in place of an index. It prints the nanoseconds of processor time
 //! that the creates took on few rows and on many. Linux on x86-64, for the clock of the thread's
 //! processor time.
 use std::collections::btree_map::Entry;
@@ -39,16 +39,45 @@ impl Table {
         table
     }
 
-    /// Does so many creates from a place of the mixed order on, and tells the time that they took.
-    fn create_each(&mut self, first: usize, count: usize) -> u64 {
+    /// Does a lot of creates from a place of the mixed order on, and tells the time that they took.
+    fn create_lot(&mut self, place: usize) -> u64 {
+        let creates: Vec<_> = (place..place + LOT).map(create_at).collect();
+        let start = spent();
+        for (raw, document) in creates {
+            assert!(self.create(raw, document));
+        }
+        spent() - start
+    }
+}
+
+/// A table that has `first` rows, grows by creates to `last`, and then begins anew.
+struct Growing {
+    table: Table,
+    rows: usize,
+    first: usize,
+    last: usize,
+}
+
+impl Growing {
+    fn new(first: usize, last: usize) -> Growing {
+        Growing {
+            table: Table::filled(first),
+            rows: first,
+            first,
+            last,
+        }
+    }
+
+    /// Does ten lots of creates, and tells the time that they took.
+    fn grow(&mut self) -> u64 {
         let mut took = 0;
-        for lot in (first..first + count).step_by(LOT) {
-            let creates: Vec<_> = (lot..lot + LOT).map(create_at).collect();
-            let start = spent();
-            for (raw, document) in creates {
-                assert!(self.create(raw, document));
+        for _ in 0..10 {
+            if self.rows >= self.last {
+                self.table = Table::filled(self.first);
+                self.rows = self.first;
             }
-            took += spent() - start;
+            took += self.table.create_lot(self.rows);
+            self.rows += LOT;
         }
         took
     }
@@ -82,16 +111,17 @@ fn main() {
     };
     let number = |word: &String| word.parse::<usize>().expect("a number");
     let (few, many, times) = (number(few), number(many), number(times));
-    let (short_at_first, long_at_first) = match work.as_str() {
-        "fills" => (0, 0),
-        "creates" => (few, many),
-        _ => panic!("the works are fills and creates"),
+    let growing = |rows: usize| match work.as_str() {
+        "fills" => Growing::new(0, rows),
+        "creates" => Growing::new(rows, rows + rows / 10),
+        "doubles" => Growing::new(rows, 2 * rows),
+        _ => panic!("the works are fills, creates and doubles"),
     };
-    let mut long = Table::filled(long_at_first);
+    let (mut short, mut long) = (growing(few), growing(many));
     let mut took = (0, 0);
-    for turn in 0..times / few {
-        took.1 += long.create_each(long_at_first + turn * few, few);
-        took.0 += Table::filled(short_at_first).create_each(short_at_first, few);
+    for _ in 0..times / (10 * LOT) {
+        took.1 += long.grow();
+        took.0 += short.grow();
     }
     eprintln!("{} {}", took.0, took.1);
 }

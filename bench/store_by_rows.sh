@@ -28,8 +28,10 @@ took() {
 for ((round = 0; round < runs; round++)); do
     took fills 100000 100000 "$program" fills 1000 100000 100000
     took creates 100000 100000 "$program" creates 1000 100000 100000
+    took doubles 100000 100000 "$program" doubles 1000 100000 100000
     took map_fills 100000 100000 "$map" fills 1000 100000 100000
     took map_creates 100000 100000 "$map" creates 1000 100000 100000
+    took map_doubles 100000 100000 "$map" doubles 1000 100000 100000
     took gets 200000 200000 "$program" gets 1000 100000 200000
     took pits 4000 4000 "$program" pits 1000 100000 4000
     took reads 1000 1000 "$program" reads 2000 100000 1000
@@ -50,8 +52,10 @@ against() {
 }
 sides fills "creates that fill an index of 1,000 rows, and one of 100,000"
 sides map_fills "the same by std's BTreeMap"
-sides creates "creates into an index that has 1,000 rows, until it has twice as many, and one that has 100,000"
+sides creates "creates into an index that has 1,000 rows, until it has a tenth more, and one that has 100,000"
 sides map_creates "the same by std's BTreeMap"
+sides doubles "creates into an index that has 1,000 rows, until it has twice as many, and one that has 100,000"
+sides map_doubles "the same by std's BTreeMap"
 sides gets "gets of 1,000 rows, and of 100,000"
 sides pits "points in time of 1,000 rows, opened and closed, and of 100,000"
 sides reads "read_pit of 1,000 rows from the middle of 2,000, and of 100,000"

@@ -1,133 +1,16 @@
-//! The works. Each is done side by side on an index of few rows and on one of many, in turns of about
-//! a millisecond, so that whatever else the machine does meets both. Each call counts the answers that
-//! are as they have to be.
+//! The works but for those by which an index grows. Each is done side by side on an index of few rows
+//! and on one of many, in turns of about a millisecond, so that whatever else the machine does meets
+//! both. Each call counts the answers that are as they have to be.
 use crate::filling::{INDEX, creates_from, filled, raw_at, write_all};
+use crate::growing::{create_each, wrote_all};
+use crate::sides::{LOT, Sides, Sizes, turns};
 use crate::timing::Spent;
 use anyhow::Result;
 use doc_query::{Query, Sort};
-use doc_table::{Item, Write};
 use index_store::{IndexStore, Served};
 use plain_data::{List, Text};
 use std::alloc::{AllocError, Global};
 use std::time::CpuClock;
-
-/// How many rows the two indices have, and how often a work is done on each.
-#[derive(Clone, Copy, Debug)]
-pub struct Sizes {
-    pub few: u64,
-    pub many: u64,
-    pub times: u64,
-}
-
-/// The processor time that a work took on few rows and on many.
-#[derive(Clone, Copy, Debug)]
-pub struct Sides {
-    pub few: Spent,
-    pub many: Spent,
-}
-
-/// How many requests are made ready at a time, and then timed.
-const LOT: u64 = 100;
-
-/// How many whole turns of so many there are.
-fn turns(times: u64, turn: u64) -> u64 {
-    times.checked_div(turn).unwrap_or(0)
-}
-
-/// Whether a bulk of so many writes did all of them.
-fn wrote_all(served: &Served, count: usize) -> bool {
-    match served {
-        Served::Items(items) => {
-            items.len() == count && items.as_slice().iter().all(|item| is_written(item))
-        }
-        _ => false,
-    }
-}
-
-fn is_written(item: &Item) -> bool {
-    match item {
-        Item::Written(_) => true,
-        _ => false,
-    }
-}
-
-/// A lot of bulks of one create each, from a place of the mixed order on.
-fn lot_of_creates(alloc: Global, place: u64) -> Result<Vec<List<Write>>, AllocError> {
-    let mut bulks = Vec::new(alloc);
-    for step in 0..LOT {
-        bulks.push(creates_from(alloc, place.wrapping_add(step), 1)?)?;
-    }
-    Ok(bulks)
-}
-
-/// Does bulks of one create each.
-fn write_each(store: &mut IndexStore, bulks: Vec<List<Write>>) -> Result<u64, AllocError> {
-    let mut done = 0u64;
-    for writes in bulks {
-        if wrote_all(&write_all(store, writes)?, 1) {
-            done = done.wrapping_add(1);
-        }
-    }
-    Ok(done)
-}
-
-/// Creates of one row each, so many in whole lots, from a place of the mixed order on.
-fn create_each(
-    clock: &impl CpuClock,
-    alloc: Global,
-    spent: &mut Spent,
-    store: &mut IndexStore,
-    place: u64,
-    count: u64,
-) -> Result<u64> {
-    let mut done = 0u64;
-    for lot in 0..turns(count, LOT) {
-        let bulks = lot_of_creates(alloc, place.wrapping_add(lot.wrapping_mul(LOT)))?;
-        spent.begin(clock)?;
-        let right = write_each(store, bulks)?;
-        spent.end(clock)?;
-        done = done.wrapping_add(right);
-    }
-    Ok(done)
-}
-
-/// Creates into one index that has `many` rows at first, and in turn with it, for each `sizes.few` of
-/// them, as many into a new index that has `few` at first.
-fn grow(
-    clock: &impl CpuClock,
-    alloc: Global,
-    sides: &mut Sides,
-    sizes: Sizes,
-    few: u64,
-    many: u64,
-) -> Result<u64> {
-    let mut long = filled(alloc, many)?;
-    let mut done = 0u64;
-    for turn in 0..turns(sizes.times, sizes.few) {
-        let place = many.wrapping_add(turn.wrapping_mul(sizes.few));
-        let right = create_each(clock, alloc, &mut sides.many, &mut long, place, sizes.few)?;
-        done = done.wrapping_add(right);
-        let mut short = filled(alloc, few)?;
-        let right = create_each(clock, alloc, &mut sides.few, &mut short, few, sizes.few)?;
-        done = done.wrapping_add(right);
-    }
-    Ok(done)
-}
-
-/// Creates that fill an index from nothing.
-pub fn fills(clock: &impl CpuClock, alloc: Global, sides: &mut Sides, sizes: Sizes) -> Result<u64> {
-    grow(clock, alloc, sides, sizes, 0, 0)
-}
-
-/// Creates into an index that is filled already.
-pub fn creates(
-    clock: &impl CpuClock,
-    alloc: Global,
-    sides: &mut Sides,
-    sizes: Sizes,
-) -> Result<u64> {
-    grow(clock, alloc, sides, sizes, sizes.few, sizes.many)
-}
 
 /// Creates into the index of many rows alone: as many as the other one would have, by one each and in
 /// turn with that as one bulk. The times of the single ones stand on the side of few rows.
