@@ -30,18 +30,18 @@ impl Table {
         }
     }
 
-    fn filled(rows: usize) -> Table {
+    fn filled(order: u64, rows: usize) -> Table {
         let mut table = Table::default();
         for place in 0..rows {
-            let (raw, document) = create_at(place);
+            let (raw, document) = create_at(order, place);
             assert!(table.create(raw, document));
         }
         table
     }
 
-    /// Does a lot of creates from a place of the mixed order on, and tells the time that they took.
-    fn create_lot(&mut self, place: usize) -> u64 {
-        let creates: Vec<_> = (place..place + LOT).map(create_at).collect();
+    /// Does a lot of creates from a place of a random order on, and tells the time that they took.
+    fn create_lot(&mut self, order: u64, place: usize) -> u64 {
+        let creates: Vec<_> = (place..place + LOT).map(|at| create_at(order, at)).collect();
         let start = spent();
         for (raw, document) in creates {
             assert!(self.create(raw, document));
@@ -50,18 +50,20 @@ impl Table {
     }
 }
 
-/// A table that has `first` rows, grows by creates to `last`, and then begins anew.
+/// A table that has `first` rows, grows by creates to `last`, and then begins anew in another order.
 struct Growing {
     table: Table,
+    order: u64,
     rows: usize,
     first: usize,
     last: usize,
 }
 
 impl Growing {
-    fn new(first: usize, last: usize) -> Growing {
+    fn new(order: u64, first: usize, last: usize) -> Growing {
         Growing {
-            table: Table::filled(first),
+            table: Table::filled(order, first),
+            order,
             rows: first,
             first,
             last,
@@ -73,23 +75,27 @@ impl Growing {
         let mut took = 0;
         for _ in 0..10 {
             if self.rows >= self.last {
-                self.table = Table::filled(self.first);
+                self.order += 2;
+                self.table = Table::filled(self.order, self.first);
                 self.rows = self.first;
             }
-            took += self.table.create_lot(self.rows);
+            took += self.table.create_lot(self.order, self.rows);
             self.rows += LOT;
         }
         took
     }
 }
 
-/// The raw id at this place of the order that `store_bench` mixes.
-fn raw_at(place: usize) -> String {
-    format!("t:{:07}", place * 7_919 % 1_000_003)
+/// The raw id at this place of a random order, by the generator SplitMix64.
+fn raw_at(order: u64, place: usize) -> String {
+    let place = (order << 32 | place as u64).wrapping_mul(0x9e37_79b9_7f4a_7c15);
+    let once = (place ^ place >> 30).wrapping_mul(0xbf58_476d_1ce4_e5b9);
+    let twice = (once ^ once >> 27).wrapping_mul(0x94d0_49bb_1331_11eb);
+    format!("t:{:016x}", twice ^ twice >> 31)
 }
 
-fn create_at(place: usize) -> (String, Arc<Document>) {
-    (raw_at(place), Arc::new([0; 8]))
+fn create_at(order: u64, place: usize) -> (String, Arc<Document>) {
+    (raw_at(order, place), Arc::new([0; 8]))
 }
 
 /// The processor time of this thread, in nanoseconds.
@@ -111,13 +117,13 @@ fn main() {
     };
     let number = |word: &String| word.parse::<usize>().expect("a number");
     let (few, many, times) = (number(few), number(many), number(times));
-    let growing = |rows: usize| match work.as_str() {
-        "fills" => Growing::new(0, rows),
-        "creates" => Growing::new(rows, rows + rows / 10),
-        "doubles" => Growing::new(rows, 2 * rows),
+    let growing = |order: u64, rows: usize| match work.as_str() {
+        "fills" => Growing::new(order, 0, rows),
+        "creates" => Growing::new(order, rows, rows + rows / 10),
+        "doubles" => Growing::new(order, rows, 2 * rows),
         _ => panic!("the works are fills, creates and doubles"),
     };
-    let (mut short, mut long) = (growing(few), growing(many));
+    let (mut short, mut long) = (growing(0, few), growing(1, many));
     let mut took = (0, 0);
     for _ in 0..times / (10 * LOT) {
         took.1 += long.grow();

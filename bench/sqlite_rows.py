@@ -2,8 +2,9 @@
 """Microseconds of a create and of a get by SQLite in memory with prepared statements.
 
 Usage: sqlite_rows.py ROWS CREATES GETS. Processor time per operation, with ROWS rows there, each a
-raw id, a number and a small document as text; the keys come in the mixed order of store_bench.
+raw id, a number and a small document as text; the keys come in a random order.
 """
+import random
 import sqlite3
 import sys
 import time
@@ -11,25 +12,23 @@ import time
 rows, creates, gets = (int(word) for word in sys.argv[1:4])
 DOCUMENT = '{"t":{"title":"Sales"},"type":"t"}'
 
-
-def raw_at(place):
-    return f"t:{place * 7919 % 1000003:07}"
-
+order = random.Random(1)
+raws = [f"t:{order.getrandbits(64):016x}" for _ in range(rows + creates)]
 
 base = sqlite3.connect(":memory:", isolation_level=None)
 base.execute("create table rows (raw text primary key, seq integer, doc text) without rowid")
 insert = "insert into rows values (?, ?, ?)"
 base.execute("begin")
-base.executemany(insert, ((raw_at(n), n, DOCUMENT) for n in range(rows)))
+base.executemany(insert, ((raws[n], n, DOCUMENT) for n in range(rows)))
 base.execute("commit")
 
-keys = [(raw_at(rows + n), rows + n, DOCUMENT) for n in range(creates)]
+keys = [(raws[rows + n], rows + n, DOCUMENT) for n in range(creates)]
 start = time.process_time()
 for row in keys:
     base.execute(insert, row)
 create = (time.process_time() - start) / creates
 
-keys = [(raw_at(n % rows),) for n in range(gets)]
+keys = [(raws[n % rows],) for n in range(gets)]
 start = time.process_time()
 for key in keys:
     base.execute("select raw, seq, doc from rows where raw = ?", key).fetchone()

@@ -5,16 +5,37 @@ ghost use Rattle.base_model.specs.Keyed.{at};
 use doc_table::{DocTable, Write};
 use index_store::{IndexStore, Opened, Served};
 use plain_data::{List, Text};
+use rand_core::{Rng, SeedableRng};
+use rand_pcg::Pcg64;
 use saved_doc::{SharedDoc, from_owned_js};
 use std::alloc::{AllocError, Global};
 
 /// The name of the index.
 pub const INDEX: &str = "rows";
 
-/// The raw id at this place of an order that mixes them; no two of the first million are the same.
-pub fn raw_at(alloc: Global, place: u64) -> Result<Text, AllocError> {
-    let number = place.wrapping_mul(7_919) % 1_000_003;
-    Ok(Text::from_string(format!(in alloc; "t:{number:07}")?))
+/// A place of a random order of raw ids. Each order is another, and has raw ids of its own.
+#[derive(Clone, Copy, Debug)]
+pub struct Place {
+    pub order: u64,
+    pub at: u64,
+}
+
+impl Place {
+    /// The place so many behind this one.
+    pub fn behind(self, steps: u64) -> Place {
+        Place {
+            order: self.order,
+            at: self.at.wrapping_add(steps),
+        }
+    }
+}
+
+/// The raw id at this place: of 64 random bits, so that hardly ever two are the same.
+pub fn raw_at(alloc: Global, place: Place) -> Result<Text, AllocError> {
+    let mut random = Pcg64::seed_from_u64(place.order);
+    random.advance(u128::from(place.at));
+    let number = random.next_u64();
+    Ok(Text::from_string(format!(in alloc; "t:{number:016x}")?))
 }
 
 /// A small document.
@@ -29,13 +50,13 @@ fn document(alloc: Global) -> Result<SharedDoc, AllocError> {
     }
 }
 
-/// Creates of `count` rows with one document, from a place of the mixed order on.
-pub fn creates_from(alloc: Global, place: u64, count: u64) -> Result<List<Write>, AllocError> {
+/// Creates of `count` rows with one document, from a place on.
+pub fn creates_from(alloc: Global, place: Place, count: u64) -> Result<List<Write>, AllocError> {
     let doc = document(alloc)?;
     let mut writes = List::new(alloc);
     for step in 0..count {
         writes.push(Write::Create {
-            raw: raw_at(alloc, place.wrapping_add(step))?,
+            raw: raw_at(alloc, place.behind(step))?,
             doc: doc.clone()?,
         })?;
     }
@@ -54,16 +75,17 @@ pub fn write_all(store: &mut IndexStore, writes: List<Write>) -> Result<Served, 
     store.bulk(INDEX, writes)
 }
 
-/// A store of one index with so many rows, each created by itself and with a document of its own.
-pub fn filled(alloc: Global, rows: u64) -> Result<IndexStore, AllocError> {
+/// A store of one index with the first rows of a random order, each created by itself and with a document
+/// of its own.
+pub fn filled(alloc: Global, order: u64, rows: u64) -> Result<IndexStore, AllocError> {
     let mut indices = List::new(alloc);
     indices.push(Opened {
         name: Text::from_str(alloc, INDEX)?,
         table: DocTable::empty(alloc),
     })?;
     let mut store = IndexStore::open(alloc, indices)?;
-    for place in 0..rows {
-        let writes = creates_from(alloc, place, 1)?;
+    for at in 0..rows {
+        let writes = creates_from(alloc, Place { order, at }, 1)?;
         write_all(&mut store, writes)?;
     }
     Ok(store)

@@ -1,5 +1,5 @@
 //! Creates of one row each into an index that grows by them.
-use crate::filling::{creates_from, filled, write_all};
+use crate::filling::{Place, creates_from, filled, write_all};
 use crate::sides::{LOT, Sides, Sizes, turns};
 use crate::timing::Spent;
 use anyhow::Result;
@@ -26,11 +26,11 @@ fn is_written(item: &Item) -> bool {
     }
 }
 
-/// A lot of bulks of one create each, from a place of the mixed order on.
-fn lot_of_creates(alloc: Global, place: u64) -> Result<Vec<List<Write>>, AllocError> {
+/// A lot of bulks of one create each, from a place on.
+fn lot_of_creates(alloc: Global, place: Place) -> Result<Vec<List<Write>>, AllocError> {
     let mut bulks = Vec::new(alloc);
     for step in 0..LOT {
-        bulks.push(creates_from(alloc, place.wrapping_add(step), 1)?)?;
+        bulks.push(creates_from(alloc, place.behind(step), 1)?)?;
     }
     Ok(bulks)
 }
@@ -46,18 +46,18 @@ fn write_each(store: &mut IndexStore, bulks: Vec<List<Write>>) -> Result<u64, Al
     Ok(done)
 }
 
-/// Creates of one row each, so many in whole lots, from a place of the mixed order on.
+/// Creates of one row each, so many in whole lots, from a place on.
 pub fn create_each(
     clock: &impl CpuClock,
     alloc: Global,
     spent: &mut Spent,
     store: &mut IndexStore,
-    place: u64,
+    place: Place,
     count: u64,
 ) -> Result<u64> {
     let mut done = 0u64;
     for lot in 0..turns(count, LOT) {
-        let bulks = lot_of_creates(alloc, place.wrapping_add(lot.wrapping_mul(LOT)))?;
+        let bulks = lot_of_creates(alloc, place.behind(lot.wrapping_mul(LOT)))?;
         spent.begin(clock)?;
         let right = write_each(store, bulks)?;
         spent.end(clock)?;
@@ -66,10 +66,12 @@ pub fn create_each(
     Ok(done)
 }
 
-/// An index that has `first` rows, grows by creates to `last`, and then begins anew.
+/// An index that has `first` rows, grows by creates to `last`, and then begins anew in another order,
+/// since a processor learns how an order goes that comes again.
 #[derive(Debug, Drop)]
 struct Growing {
     store: IndexStore,
+    order: u64,
     rows: u64,
     first: u64,
     last: u64,
@@ -77,9 +79,10 @@ struct Growing {
 
 impl Growing {
     /// The index with its first rows.
-    fn new(alloc: Global, first: u64, last: u64) -> Result<Growing, AllocError> {
+    fn new(alloc: Global, order: u64, first: u64, last: u64) -> Result<Growing, AllocError> {
         Ok(Growing {
-            store: filled(alloc, first)?,
+            store: filled(alloc, order, first)?,
+            order,
             rows: first,
             first,
             last,
@@ -97,10 +100,15 @@ impl Growing {
         let mut done = 0u64;
         for _ in 0..turns(count, LOT) {
             if self.rows >= self.last {
-                self.store = filled(alloc, self.first)?;
+                self.order = self.order.wrapping_add(2);
+                self.store = filled(alloc, self.order, self.first)?;
                 self.rows = self.first;
             }
-            let right = create_each(clock, alloc, spent, &mut self.store, self.rows, LOT)?;
+            let place = Place {
+                order: self.order,
+                at: self.rows,
+            };
+            let right = create_each(clock, alloc, spent, &mut self.store, place, LOT)?;
             done = done.wrapping_add(right);
             self.rows = self.rows.wrapping_add(LOT);
         }
@@ -129,8 +137,8 @@ fn grow_both(
 
 /// Creates that fill an index from nothing.
 pub fn fills(clock: &impl CpuClock, alloc: Global, sides: &mut Sides, sizes: Sizes) -> Result<u64> {
-    let mut short = Growing::new(alloc, 0, sizes.few)?;
-    let mut long = Growing::new(alloc, 0, sizes.many)?;
+    let mut short = Growing::new(alloc, 0, 0, sizes.few)?;
+    let mut long = Growing::new(alloc, 1, 0, sizes.many)?;
     grow_both(clock, alloc, sides, sizes.times, &mut short, &mut long)
 }
 
@@ -146,8 +154,8 @@ pub fn creates(
     sides: &mut Sides,
     sizes: Sizes,
 ) -> Result<u64> {
-    let mut short = Growing::new(alloc, sizes.few, and_a_tenth(sizes.few))?;
-    let mut long = Growing::new(alloc, sizes.many, and_a_tenth(sizes.many))?;
+    let mut short = Growing::new(alloc, 0, sizes.few, and_a_tenth(sizes.few))?;
+    let mut long = Growing::new(alloc, 1, sizes.many, and_a_tenth(sizes.many))?;
     grow_both(clock, alloc, sides, sizes.times, &mut short, &mut long)
 }
 
@@ -158,7 +166,7 @@ pub fn doubles(
     sides: &mut Sides,
     sizes: Sizes,
 ) -> Result<u64> {
-    let mut short = Growing::new(alloc, sizes.few, sizes.few.wrapping_mul(2))?;
-    let mut long = Growing::new(alloc, sizes.many, sizes.many.wrapping_mul(2))?;
+    let mut short = Growing::new(alloc, 0, sizes.few, sizes.few.wrapping_mul(2))?;
+    let mut long = Growing::new(alloc, 1, sizes.many, sizes.many.wrapping_mul(2))?;
     grow_both(clock, alloc, sides, sizes.times, &mut short, &mut long)
 }

@@ -5,7 +5,7 @@
 //! `fills` (creates that fill the index from nothing), `creates` (into the index as it is filled, until
 //! it has a tenth more), `doubles` (until it has twice as many), `gets`, `pits`, `reads`, or `bulks` (as
 //! many creates as FEW says into the index of many rows, one by one and then as a bulk). The rows come
-//! in a mixed order of raw ids, each with a document of its own.
+//! in a random order of raw ids, each with a document of its own.
 mod filling;
 mod growing;
 mod sides;

@@ -1,7 +1,7 @@
 //! The works but for those by which an index grows. Each is done side by side on an index of few rows
 //! and on one of many, in turns of about a millisecond, so that whatever else the machine does meets
 //! both. Each call counts the answers that are as they have to be.
-use crate::filling::{INDEX, creates_from, filled, raw_at, write_all};
+use crate::filling::{INDEX, Place, creates_from, filled, raw_at, write_all};
 use crate::growing::{create_each, wrote_all};
 use crate::sides::{LOT, Sides, Sizes, turns};
 use crate::timing::Spent;
@@ -15,15 +15,18 @@ use std::time::CpuClock;
 /// Creates into the index of many rows alone: as many as the other one would have, by one each and in
 /// turn with that as one bulk. The times of the single ones stand on the side of few rows.
 pub fn bulks(clock: &impl CpuClock, alloc: Global, sides: &mut Sides, sizes: Sizes) -> Result<u64> {
-    let mut store = filled(alloc, sizes.many)?;
-    let mut place = sizes.many;
+    let mut store = filled(alloc, 1, sizes.many)?;
+    let mut place = Place {
+        order: 1,
+        at: sizes.many,
+    };
     let mut done = 0u64;
     for _ in 0..sizes.times {
         let right = create_each(clock, alloc, &mut sides.few, &mut store, place, sizes.few)?;
         done = done.wrapping_add(right);
-        place = place.wrapping_add(sizes.few);
+        place = place.behind(sizes.few);
         let writes = creates_from(alloc, place, sizes.few)?;
-        place = place.wrapping_add(sizes.few);
+        place = place.behind(sizes.few);
         let count = writes.len();
         sides.many.begin(clock)?;
         let served = write_all(&mut store, writes)?;
@@ -35,13 +38,14 @@ pub fn bulks(clock: &impl CpuClock, alloc: Global, sides: &mut Sides, sizes: Siz
     Ok(done)
 }
 
-/// A lot of lists of one raw id each, of the rows from a place of the mixed order on.
-fn lot_of_raws(alloc: Global, rows: u64, place: u64) -> Result<Vec<List<Text>>, AllocError> {
+/// A lot of lists of one raw id each, from a place on and, behind the last row, from the first.
+fn lot_of_raws(alloc: Global, rows: u64, place: Place) -> Result<Vec<List<Text>>, AllocError> {
     let mut lists = Vec::new(alloc);
     for step in 0..LOT {
         let mut raws = List::new(alloc);
-        let at = place.wrapping_add(step).checked_rem(rows).unwrap_or(0);
-        raws.push(raw_at(alloc, at)?)?;
+        let at = place.behind(step).at.checked_rem(rows).unwrap_or(0);
+        let order = place.order;
+        raws.push(raw_at(alloc, Place { order, at })?)?;
         lists.push(raws)?;
     }
     Ok(lists)
@@ -67,11 +71,11 @@ fn get_lots(
     spent: &mut Spent,
     store: &mut IndexStore,
     rows: u64,
-    place: u64,
+    place: Place,
 ) -> Result<u64> {
     let mut done = 0u64;
     for lot in 0..10u64 {
-        let lists = lot_of_raws(alloc, rows, place.wrapping_add(lot.wrapping_mul(LOT)))?;
+        let lists = lot_of_raws(alloc, rows, place.behind(lot.wrapping_mul(LOT)))?;
         spent.begin(clock)?;
         let right = get_each(store, lists)?;
         spent.end(clock)?;
@@ -82,13 +86,15 @@ fn get_lots(
 
 /// Gets of one row each.
 pub fn gets(clock: &impl CpuClock, alloc: Global, sides: &mut Sides, sizes: Sizes) -> Result<u64> {
-    let mut short = filled(alloc, sizes.few)?;
-    let mut long = filled(alloc, sizes.many)?;
+    let mut short = filled(alloc, 0, sizes.few)?;
+    let mut long = filled(alloc, 1, sizes.many)?;
     let mut done = 0u64;
     for turn in 0..turns(sizes.times, 10 * LOT) {
-        let place = turn.wrapping_mul(10 * LOT);
+        let at = turn.wrapping_mul(10 * LOT);
+        let place = Place { order: 1, at };
         let right = get_lots(clock, alloc, &mut sides.many, &mut long, sizes.many, place)?;
         done = done.wrapping_add(right);
+        let place = Place { order: 0, at };
         let right = get_lots(clock, alloc, &mut sides.few, &mut short, sizes.few, place)?;
         done = done.wrapping_add(right);
     }
@@ -123,8 +129,8 @@ fn open_and_close(clock: &impl CpuClock, spent: &mut Spent, store: &mut IndexSto
 
 /// Points in time, each opened and closed.
 pub fn pits(clock: &impl CpuClock, alloc: Global, sides: &mut Sides, sizes: Sizes) -> Result<u64> {
-    let mut short = filled(alloc, sizes.few)?;
-    let mut long = filled(alloc, sizes.many)?;
+    let mut short = filled(alloc, 0, sizes.few)?;
+    let mut long = filled(alloc, 1, sizes.many)?;
     let mut done = 0u64;
     for _ in 0..turns(sizes.times, LOT) {
         let right = open_and_close(clock, &mut sides.many, &mut long)?;
@@ -144,7 +150,7 @@ fn from_the_middle(alloc: Global) -> Result<Query, AllocError> {
         reference: None,
         origin: None,
         outdated: List::new(alloc),
-        after: Some(Text::from_str(alloc, "t:0500000")?),
+        after: Some(Text::from_str(alloc, "t:8")?),
         sort: Sort::Raw,
         descending: false,
         skip: 0,
@@ -176,8 +182,8 @@ fn read_again(
 
 /// Reads of 1,000 rows from the middle of a point in time.
 pub fn reads(clock: &impl CpuClock, alloc: Global, sides: &mut Sides, sizes: Sizes) -> Result<u64> {
-    let mut short = filled(alloc, sizes.few)?;
-    let mut long = filled(alloc, sizes.many)?;
+    let mut short = filled(alloc, 0, sizes.few)?;
+    let mut long = filled(alloc, 1, sizes.many)?;
     let Some(short_pit) = open(&mut short)? else {
         return Ok(0);
     };
