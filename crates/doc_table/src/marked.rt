@@ -449,7 +449,10 @@ fn split_all(
     ensures err { OnErr result (rows.new.items ≡ rows.old.items) }
     ensures marks { AreMarks prefix.new.items marks.new.items rows.new.items }
 {
-    let upper_rows = rows.split_off(at)?;
+    let mut upper_rows = rows.split_off(at)?;
+    // Room for the rows that come, taken now, so that the list lies beside its marks and is not
+    // moved when the next row comes. Where there is no memory for it, that row takes it.
+    let _ = upper_rows.reserve(32);
     let mut upper_prefix = bytes_of(prefix.as_slice());
     let mut upper_marks = marks_from(marks.as_slice(), at);
     marks.truncate(at);
