@@ -11,6 +11,7 @@ mod pages;
 mod place;
 mod reader;
 mod shared_row;
+mod spare;
 mod table;
 mod writes;
 

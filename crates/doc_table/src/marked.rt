@@ -115,14 +115,14 @@ impl MarkedRows {
         remove_both(&mut self.rows, self.prefix.as_slice(), &mut self.marks, at);
     }
 
-    /// Takes the rows from an index on out.
-    pub fn split_off(&mut self, at: usize) -> Result<MarkedRows, AllocError>
+    /// Takes the rows from an index on out, to stand in this room.
+    pub fn split_off(&mut self, at: usize, room: Vec<SharedRow>) -> Result<MarkedRows, AllocError>
         requires { at ≤ length self.old }
         ensures lower { OnOk result (self.new ≡ take at self.old) }
         ensures upper { IfOk result (λ upper. upper ≡ drop at self.old) }
         ensures err { OnErr result (self.new ≡ self.old) }
     {
-        split_all(&mut self.rows, &mut self.prefix, &mut self.marks, at)
+        split_all(&mut self.rows, &mut self.prefix, &mut self.marks, at, room)
     }
 }
 
@@ -434,12 +434,24 @@ fn marks_from(marks: &[u64], at: usize) -> ArrayVec<u64, 64>
     upper
 }
 
-/// Takes the rows from an index on out. All memory is taken first.
+/// These rows, in this room where it takes them.
+fn moved_into(mut room: Vec<SharedRow>, mut rows: Vec<SharedRow>) -> Vec<SharedRow>
+    ensures { result.items ≡ rows.items }
+{
+    room.clear();
+    match room.append(&mut rows) {
+        Ok(()) => room,
+        Err(_) => rows,
+    }
+}
+
+/// Takes the rows from an index on out, to stand in this room. All memory is taken first.
 fn split_all(
     rows: &mut Vec<SharedRow>,
     prefix: &mut ArrayVec<u8, 32>,
     marks: &mut ArrayVec<u64, 64>,
     at: usize,
+    room: Vec<SharedRow>,
 ) -> Result<MarkedRows, AllocError>
     requires within { at ≤ length rows.old.items }
     requires few { length rows.old.items ≤ 64 }
@@ -449,10 +461,7 @@ fn split_all(
     ensures err { OnErr result (rows.new.items ≡ rows.old.items) }
     ensures marks { AreMarks prefix.new.items marks.new.items rows.new.items }
 {
-    let mut upper_rows = rows.split_off(at)?;
-    // Room for the rows that come, taken now, so that the list lies beside its marks and is not
-    // moved when the next row comes. Where there is no memory for it, that row takes it.
-    let _ = upper_rows.reserve(32);
+    let upper_rows = moved_into(room, rows.split_off(at)?);
     let mut upper_prefix = bytes_of(prefix.as_slice());
     let mut upper_marks = marks_from(marks.as_slice(), at);
     marks.truncate(at);

@@ -12,6 +12,7 @@ use crate::mark::{Mark, compare_marks};
 use crate::marked::{MarkedRows, place_by_halves};
 use crate::place::{compare_shared, put_shared};
 use crate::shared_row::SharedRow;
+use crate::spare::{SparePage, take_spare};
 use saved_doc::Row;
 use std::alloc::{AllocError, Global};
 use std::cmp::Ordering;
@@ -279,22 +280,27 @@ fn mark_at(at: usize, mark: Mark, raw: &str) -> Mark
 }
 
 /// Takes the rows from the 33rd on out of a full page, as a page of their own, where no row of it was
-/// taken out and nothing shares it. The memory is taken first.
-pub fn upper_half(alloc: Global, held: &mut SharedPage) -> Result<Option<SharedPage>, AllocError>
+/// taken out and nothing shares it. The memory is taken first, from the spares of a table that has so
+/// many pages.
+pub fn upper_half(
+    spares: &mut Vec<SparePage>,
+    pages: usize,
+    held: &mut SharedPage,
+) -> Result<Option<SharedPage>, AllocError>
     requires { IsSound held.old }
     ensures told { MatchResult result (λ upper. MatchOption upper (held.new ≡ held.old) (λ u. IsHalved held.old held.new u)) (λ _. held.new ≡ held.old) }
 {
     if held.live != u64::MAX || held.rows().len() < 64 {
         return Ok(None);
     }
-    let mut page = Arc::new(alloc, MarkedRows::empty(alloc))?;
+    let SparePage { mut page, room } = take_spare(spares, pages)?;
     let Some(upper) = Arc::get_mut(&mut page) else {
         return Ok(None);
     };
     let Some(rows) = Arc::get_mut(&mut held.page) else {
         return Ok(None);
     };
-    match rows.split_off(32) {
+    match rows.split_off(32, room) {
         Err(refused) => Err(refused),
         Ok(tail) => {
             let mark = tail.first_mark();

@@ -12,6 +12,7 @@ use crate::page::{
     without_row,
 };
 use crate::shared_row::SharedRow;
+use crate::spare::SparePage;
 use saved_doc::Row;
 use std::alloc::AllocError;
 
@@ -47,7 +48,11 @@ fn put_in_place(
 
 /// Moves the upper half of a page to a page behind it, where the page is full, no row of it was taken
 /// out and nothing shares it. Tells whether it did.
-fn halve(pages: &mut Vec<SharedPage>, p: usize) -> Result<bool, AllocError>
+fn halve(
+    pages: &mut Vec<SharedPage>,
+    spares: &mut Vec<SparePage>,
+    p: usize,
+) -> Result<bool, AllocError>
     requires pages { IsPages pages.old.items }
     requires within { p < length pages.old.items }
     ensures stays { IfOk result (λ done. done ≡ false → pages.new.items ≡ pages.old.items) }
@@ -55,9 +60,9 @@ fn halve(pages: &mut Vec<SharedPage>, p: usize) -> Result<bool, AllocError>
     ensures pages { IsPages pages.new.items }
     ensures some { 0 < length pages.new.items }
 {
-    let alloc = *pages.allocator();
+    let count = pages.len();
     pages.reserve(1)?;
-    match upper_half(alloc, &mut pages[p])? {
+    match upper_half(spares, count, &mut pages[p])? {
         Some(upper) => {
             pages.insert(p + 1, upper)?;
             Ok(true)
@@ -67,7 +72,12 @@ fn halve(pages: &mut Vec<SharedPage>, p: usize) -> Result<bool, AllocError>
 }
 
 /// The page in which a row can stand, after a page without room for it was halved where it can be.
-fn with_room(pages: &mut Vec<SharedPage>, p: usize, row: &SharedRow) -> Result<usize, AllocError>
+fn with_room(
+    pages: &mut Vec<SharedPage>,
+    spares: &mut Vec<SparePage>,
+    p: usize,
+    row: &SharedRow,
+) -> Result<usize, AllocError>
     requires pages { IsPages pages.old.items }
     requires place { IsPageOf row.now.raw pages.old.items p }
     ensures place { IfOk result (λ q. IsPageOf row.now.raw pages.new.items q) }
@@ -77,7 +87,7 @@ fn with_room(pages: &mut Vec<SharedPage>, p: usize, row: &SharedRow) -> Result<u
     if has_room(&pages[p], row) {
         return Ok(p);
     }
-    if !halve(pages, p)? {
+    if !halve(pages, spares, p)? {
         return Ok(p);
     }
     let raw = row.row().raw.as_str();
@@ -85,14 +95,19 @@ fn with_room(pages: &mut Vec<SharedPage>, p: usize, row: &SharedRow) -> Result<u
 }
 
 /// Puts a row into its page.
-fn put_row(pages: &mut Vec<SharedPage>, p: usize, row: SharedRow) -> Result<(), AllocError>
+fn put_row(
+    pages: &mut Vec<SharedPage>,
+    spares: &mut Vec<SparePage>,
+    p: usize,
+    row: SharedRow,
+) -> Result<(), AllocError>
     requires pages { IsPages pages.old.items }
     requires place { IsPageOf row.raw pages.old.items p }
     ensures ok { OnOk result (rows_of pages.new.items ≡ with_row row (rows_of pages.old.items)) }
     ensures err { OnErr result (rows_of pages.new.items ≡ rows_of pages.old.items) }
     ensures pages { IsPages pages.new.items }
 {
-    let q = with_room(pages, p, &row)?;
+    let q = with_room(pages, spares, p, &row)?;
     match put_in_place(pages, q, row)? {
         None => Ok(()),
         Some(row) => put_copied(pages, q, row),
@@ -164,7 +179,12 @@ pub fn page_of(pages: &[SharedPage], raw: &str, key: Mark) -> usize
 }
 
 /// Puts a row into its page, or makes the first one.
-pub fn put_seated(pages: &mut Vec<SharedPage>, spot: Spot, row: Row) -> Result<(), AllocError>
+pub fn put_seated(
+    pages: &mut Vec<SharedPage>,
+    spares: &mut Vec<SparePage>,
+    spot: Spot,
+    row: Row,
+) -> Result<(), AllocError>
     requires pages { IsPages pages.old.items }
     requires spot { IsSpot row.raw pages.old.items spot }
     ensures ok { OnOk result (rows_of pages.new.items ≡ with_row row (rows_of pages.old.items)) }
@@ -177,7 +197,7 @@ pub fn put_seated(pages: &mut Vec<SharedPage>, spot: Spot, row: Row) -> Result<(
     }
     match put_in_spot(pages, spot, row)? {
         None => Ok(()),
-        Some(row) => put_row(pages, spot.page, row),
+        Some(row) => put_row(pages, spares, spot.page, row),
     }
 }
 

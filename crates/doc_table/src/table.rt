@@ -12,6 +12,7 @@ use crate::page::SharedPage;
 use crate::pages::{Spot, clear_seated, find, look_in, put_seated};
 use crate::place::meets;
 use crate::reader::Rows;
+use crate::spare::SparePage;
 use crate::writes::{Item, Write};
 use plain_data::{List, Text};
 use saved_doc::{Row, SharedDoc};
@@ -20,10 +21,12 @@ use std::marker::Model;
 
 /// A table: rows in rising order of raw id, and the number of the next write.
 ///
-/// Contracts see the table of the model. The rows stand in pages, which snapshots share.
+/// Contracts see the table of the model. The rows stand in pages, which snapshots share; the memory of
+/// pages to come is the table's own.
 #[derive(Debug, Drop)]
 pub struct DocTable {
     pages: Vec<SharedPage>,
+    spares: Vec<SparePage>,
     next: u64,
 }
 
@@ -50,6 +53,7 @@ impl DocTable {
     {
         DocTable {
             pages: Vec::new(alloc),
+            spares: Vec::new(alloc),
             next: 0,
         }
     }
@@ -88,7 +92,14 @@ impl DocTable {
         let (spot, now) = find(self.pages.as_slice(), raw.as_str());
         match now {
             Some(now) => Ok(Item::Exists(now)),
-            None => write_at(&mut self.pages, &mut self.next, spot, raw, doc),
+            None => write_at(
+                &mut self.pages,
+                &mut self.spares,
+                &mut self.next,
+                spot,
+                raw,
+                doc,
+            ),
         }
     }
 
@@ -109,7 +120,14 @@ impl DocTable {
     {
         let (spot, now) = find(self.pages.as_slice(), raw.as_str());
         if meets(expect, now) {
-            return write_at(&mut self.pages, &mut self.next, spot, raw, doc);
+            return write_at(
+                &mut self.pages,
+                &mut self.spares,
+                &mut self.next,
+                spot,
+                raw,
+                doc,
+            );
         }
         Ok(Item::Conflict(now))
     }
@@ -169,9 +187,10 @@ impl DocTable {
     pub fn snapshot(&self) -> Result<DocTable, AllocError>
         ensures { IfOk result (λ t. t ≡ self.now) }
     {
-        let pages = share(*self.pages.allocator(), self.pages.as_slice())?;
+        let alloc = *self.pages.allocator();
         Ok(DocTable {
-            pages,
+            pages: share(alloc, self.pages.as_slice())?,
+            spares: Vec::new(alloc),
             next: self.next,
         })
     }
@@ -182,14 +201,20 @@ impl DocTable {
         ensures { IfOk result (λ t. t ≡ renumbered self.now) }
     {
         let _next = self.next;
-        let (pages, next) = count_pages(*self.pages.allocator(), self.pages.as_slice())?;
-        Ok(DocTable { pages, next })
+        let alloc = *self.pages.allocator();
+        let (pages, next) = count_pages(alloc, self.pages.as_slice())?;
+        Ok(DocTable {
+            pages,
+            spares: Vec::new(alloc),
+            next,
+        })
     }
 }
 
 /// Puts a row at this spot, which is its raw id's, with the next number.
 fn write_at(
     pages: &mut Vec<SharedPage>,
+    spares: &mut Vec<SparePage>,
     next: &mut u64,
     spot: Spot,
     raw: Text,
@@ -203,7 +228,7 @@ fn write_at(
     ensures paged { IsPaged pages.new.items next.new }
 {
     let seq = *next;
-    put_seated(pages, spot, Row { raw, seq, doc })?;
+    put_seated(pages, spares, spot, Row { raw, seq, doc })?;
     *next += 1;
     Ok(Item::Written(seq))
 }

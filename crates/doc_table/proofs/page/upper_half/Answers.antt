@@ -20,5 +20,5 @@ returns-in-Ok c =
     let n : 64 ≤ length (page_rows c.args.held.now) = let l = ap length c.rows.ensures in omega arith in
     let low : c.split_off.new.self ≡ take 32 (page_rows c.args.held.now) = c.in-Ok.ensures.lower ∙ ap (λ (v : List Row). take 32 v) c.in-Some-get_mut.ensures.value in
     let high : c.in-Ok.tail ≡ drop 32 (page_rows c.args.held.now) = c.in-Ok.ensures.upper ∙ ap (λ (v : List Row). drop 32 v) c.in-Some-get_mut.ensures.value in
-    let upper : SharedPage = record { page = arc_with_value c.in_ok-page.page c.in-Ok.tail; live = 18446744073709551615; mark = c.first_mark-mark.result } in
+    let upper : SharedPage = record { page = arc_with_value c.in_ok-page.field-0.page c.in-Ok.tail; live = 18446744073709551615; mark = c.first_mark-mark.result } in
     record { told = is_halved c.args.held.now (holding c.args.held.now c.split_off.new.self) upper c.requires n c.if-held.false c.if-held.false refl low high refl c.first_mark-mark.ensures }
